@@ -1,0 +1,21 @@
+-- A route as a set of aisles, and what it means that one is part of another.
+use Prim.Native.Nat.{ℕ, zero, suc, _/_, _%_, _^_}
+use lib.Dec.{eqb}
+use mathlib.Core.Bool.{Bool, true, not, _&&_, _||_}
+
+-- bit k of the mask says whether the route has aisle k
+abbrev pub hasAisle : ℕ → ℕ → Bool
+hasAisle mask k = eqb (mask / 2 ^ k % 2) 1
+
+-- if the first route has aisle k, so has the second
+abbrev pub sharesAisle : ℕ → ℕ → ℕ → Bool
+sharesAisle a b k = not (hasAisle a k) || hasAisle b k
+
+-- the same of each aisle below a number
+unfoldable pub sharesBelow : ℕ → ℕ → ℕ → Bool
+sharesBelow a b zero = true
+sharesBelow a b (suc k) = sharesAisle a b k && sharesBelow a b k
+
+-- each aisle of the first route, of 0 to 63, is one of the second
+unfoldable pub partOf : ℕ → ℕ → Bool
+partOf a b = sharesBelow a b 64

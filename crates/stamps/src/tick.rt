@@ -1,0 +1,21 @@
+// Ticks of the clock, the order of numbers.
+ghost use lib.Dec.{leb, ltb};
+use crate::order::Order;
+
+// A tick is before a later one, and not after itself and later ones.
+#[derive(Clone, Copy, PartialEq, Eq, Debug)]
+pub struct Tick(pub u32);
+
+pub impl Order for Tick as TickOrder {
+    ghost isBefore = { λ a b. ltb (a .0) (b .0) };
+
+    ghost isNotAfter = { λ a b. leb (a .0) (b .0) };
+
+    fn before(&self, other: &Self) -> bool {
+        self.0 < other.0
+    }
+
+    fn not_after(&self, other: &Self) -> bool {
+        self.0 <= other.0
+    }
+}
