@@ -1,0 +1,27 @@
+-- The layer, number and values of every refusal.
+use Prim.Native.Nat.{ℕ}
+use Rattle.books.specs.declared.fault.Layer.{Layer}
+use Rattle.books.specs.declared.fault.Layer.the-variants.{Reading, Checking, Running}
+use Rattle.books.specs.declared.fault.Values.{Values}
+use Rattle.books.specs.declared.fault.Values.the-variants.{RuleLiteral}
+use Rattle.books.specs.declared.fault.Refusal.{Refusal}
+use Rattle.books.specs.declared.fault.CheckFault.{CheckFault}
+use Rattle.books.specs.declared.fault.CheckFault.the-variants.{TooLarge, BodyTooLong, HeadMissing, HeadIsReading, LiteralMissing, PositiveOutOfOrder, NegativeOutOfOrder}
+use Rattle.books.specs.declared.fault.Fault.{Fault}
+use Rattle.books.specs.declared.fault.Fault.the-variants as fault
+
+-- a refusal of the check, with the rule and the literal that it names
+abbrev pub checkingAt : ℕ → ℕ → ℕ → Refusal
+checkingAt number rule literal = record { layer = Checking; number = number; values = RuleLiteral rule literal }
+
+abbrev pub checkRefusal : CheckFault → Refusal
+checkRefusal TooLarge = checkingAt 3 0 0
+checkRefusal (BodyTooLong rule) = checkingAt 3 rule 0
+checkRefusal (HeadMissing rule) = checkingAt 4 rule 0
+checkRefusal (HeadIsReading rule) = checkingAt 5 rule 0
+checkRefusal (LiteralMissing rule literal) = checkingAt 4 rule literal
+checkRefusal (PositiveOutOfOrder rule literal) = checkingAt 6 rule literal
+checkRefusal (NegativeOutOfOrder rule literal) = checkingAt 7 rule literal
+
+abbrev pub refusalOf : Fault → Refusal
+refusalOf (fault.Checking f) = checkRefusal f

@@ -1,0 +1,69 @@
+// Refusals: what was refused, with its layer, number and values.
+ghost use mathlib.Core.Path.{_≡_};
+ghost use Rattle.books.specs.Faults.{refusalOf};
+
+// The part of the product that refused.
+#[derive(Clone, Copy, PartialEq, Eq, Debug)]
+pub enum Layer {
+    Reading,
+    Checking,
+    Running,
+}
+
+// What comes back with a refusal's number.
+#[derive(Clone, Copy, PartialEq, Eq, Debug)]
+pub enum Values {
+    RuleLiteral(usize, usize),
+}
+
+// A refusal as it is told.
+#[derive(Clone, Copy, PartialEq, Eq, Debug)]
+pub struct Refusal {
+    pub layer: Layer,
+    pub number: u8,
+    pub values: Values,
+}
+
+// What the check refuses. Literals count from 1, positives first.
+#[derive(Clone, Copy, PartialEq, Eq, Debug)]
+pub enum CheckFault {
+    TooLarge,
+    BodyTooLong { rule: usize },
+    HeadMissing { rule: usize },
+    HeadIsReading { rule: usize },
+    LiteralMissing { rule: usize, literal: usize },
+    PositiveOutOfOrder { rule: usize, literal: usize },
+    NegativeOutOfOrder { rule: usize, literal: usize },
+}
+
+// Every refusal of the product, by layer.
+#[derive(Clone, Copy, PartialEq, Eq, Debug)]
+pub enum Fault {
+    Checking(CheckFault),
+}
+
+impl Fault {
+    // The one place that knows a refusal's number.
+    pub fn refusal(&self) -> Refusal
+        ensures { λ r. ⌜ r ≡ refusalOf (now (self .entry)) ⌝ }
+    {
+        match self {
+            Fault::Checking(fault) => {
+                let (number, rule, literal) = match *fault {
+                    CheckFault::TooLarge => (3, 0, 0),
+                    CheckFault::BodyTooLong { rule } => (3, rule, 0),
+                    CheckFault::HeadMissing { rule } => (4, rule, 0),
+                    CheckFault::HeadIsReading { rule } => (5, rule, 0),
+                    CheckFault::LiteralMissing { rule, literal } => (4, rule, literal),
+                    CheckFault::PositiveOutOfOrder { rule, literal } => (6, rule, literal),
+                    CheckFault::NegativeOutOfOrder { rule, literal } => (7, rule, literal),
+                };
+                Refusal {
+                    layer: Layer::Checking,
+                    number,
+                    values: Values::RuleLiteral(rule, literal),
+                }
+            }
+        }
+    }
+}
