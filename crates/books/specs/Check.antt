@@ -29,16 +29,18 @@ abbrev pub stampFault : {S : Type 0} → (S → Bool) → CheckFault → CheckFa
 stampFault fits missing disorder None = Some missing
 stampFault fits missing disorder (Some s) = cond (fits s) None (Some disorder)
 
--- the fault of an atom that is literal i + 1 of rule k, whose head has the stamp h and which has p positives
-abbrev pub literalFault : {S : Type 0} → (S → S → Bool) → (S → S → Bool) → Meaning S → ℕ → ℕ → S → ℕ → ℕ → Option CheckFault
-literalFault before notAfter m k p h i a =
-    cond (ltb i p)
-    (stampFault (λ s. notAfter s h) (LiteralMissing k (i + 1)) (PositiveOutOfOrder k (i + 1)) (stampOf m a))
-    (stampFault (λ s. before s h) (LiteralMissing k (i + 1)) (NegativeOutOfOrder k (i + 1)) (stampOf m a))
+-- the fault of literal i + 1 of rule k, which has p positives and whose head has the stamp h
+abbrev pub literalFault : {S : Type 0} → (S → S → Bool) → (S → S → Bool) → Meaning S → ℕ → ℕ → S → ℕ → Option CheckFault
+literalFault before notAfter m k p h i =
+    bindSome
+    (λ a. cond (ltb i p)
+        (stampFault (λ s. notAfter s h) (LiteralMissing k (i + 1)) (PositiveOutOfOrder k (i + 1)) (stampOf m a))
+        (stampFault (λ s. before s h) (LiteralMissing k (i + 1)) (NegativeOutOfOrder k (i + 1)) (stampOf m a)))
+    (literalOf m k i)
 
 -- the first fault among the literals of rule k, which has p positives and n negatives
 abbrev pub bodyFault : {S : Type 0} → (S → S → Bool) → (S → S → Bool) → Meaning S → ℕ → ℕ → ℕ → S → Option CheckFault
-bodyFault before notAfter m k p n h = firstBelow (p + n) (λ i. bindSome (literalFault before notAfter m k p h i) (literalOf m k i))
+bodyFault before notAfter m k p n h = firstBelow (p + n) (literalFault before notAfter m k p h)
 
 -- the first fault from the head on: it is missing, it is a reading, or a literal is at fault
 abbrev pub headFault : {S : Type 0} → (S → S → Bool) → (S → S → Bool) → Meaning S → ℕ → ℕ → ℕ → Option (Atom S) → Option CheckFault

@@ -13,37 +13,6 @@ pub const MAX_ATOMS: usize = 1024;
 pub const MAX_RULES: usize = 1024;
 pub const MAX_BODY: usize = 6;
 
-// Where a literal stands: its rule, how many positives that has, and the literal's place from 0, positives first.
-#[derive(Clone, Copy)]
-struct Place {
-    rule: usize,
-    positives: usize,
-    index: usize,
-}
-
-// One literal: its atom is there, and its stamp is not after the head's if positive, before it if negative.
-fn check_literal<B: Book>(book: &B, place: Place, atom: usize, head: &B::Stamp) -> Result<(), Fault>
-    requires { ⌜ place .index < 12 ⌝ }
-    ensures { λ r. ⌜ r ≡ unless (literalFault (Stamp·Order .isBefore) (Stamp·Order .isNotAfter) (B·Book .meaning (now (book .entry))) (place .rule) (place .positives) (now (head .entry)) (place .index) atom) ⌝ }
-{
-    let rule = place.rule;
-    let literal = place.index + 1;
-    let Some(stamp) = book.stamp(atom) else {
-        return Err(Fault::Checking(CheckFault::LiteralMissing { rule, literal }));
-    };
-    if place.index < place.positives {
-        if stamp.not_after(head) {
-            Ok(())
-        } else {
-            Err(Fault::Checking(CheckFault::PositiveOutOfOrder { rule, literal }))
-        }
-    } else if stamp.before(head) {
-        Ok(())
-    } else {
-        Err(Fault::Checking(CheckFault::NegativeOutOfOrder { rule, literal }))
-    }
-}
-
 // The atom at `index` among the rule's literals, positives first.
 fn literal<B: Book>(book: &B, rule: usize, positives: usize, index: usize) -> Option<usize>
     requires { ⌜ positiveCountOf (B·Book .meaning (now book)) rule ≡ Some positives ⌝ }
@@ -56,15 +25,38 @@ fn literal<B: Book>(book: &B, rule: usize, positives: usize, index: usize) -> Op
     }
 }
 
+// One literal: its atom is there, and its stamp is not after the head's if positive, before it if negative.
+fn check_literal<B: Book>(book: &B, rule: usize, positives: usize, index: usize, head: &B::Stamp) -> Result<(), Fault>
+    requires { ⌜ positiveCountOf (B·Book .meaning (now book)) rule ≡ Some positives ⌝ ∗ ⌜ index < 12 ⌝ }
+    ensures { λ r. ⌜ r ≡ unless (literalFault (Stamp·Order .isBefore) (Stamp·Order .isNotAfter) (B·Book .meaning (now (book .entry))) rule positives (now (head .entry)) index) ⌝ }
+{
+    let Some(atom) = literal(book, rule, positives, index) else {
+        return Ok(());
+    };
+    let literal = index + 1;
+    let Some(stamp) = book.stamp(atom) else {
+        return Err(Fault::Checking(CheckFault::LiteralMissing { rule, literal }));
+    };
+    if index < positives {
+        if stamp.not_after(head) {
+            Ok(())
+        } else {
+            Err(Fault::Checking(CheckFault::PositiveOutOfOrder { rule, literal }))
+        }
+    } else if stamp.before(head) {
+        Ok(())
+    } else {
+        Err(Fault::Checking(CheckFault::NegativeOutOfOrder { rule, literal }))
+    }
+}
+
 // The literals in order, up to the first fault.
 fn check_body<B: Book>(book: &B, rule: usize, positives: usize, negatives: usize, head: &B::Stamp) -> Result<(), Fault>
     requires { ⌜ positiveCountOf (B·Book .meaning (now book)) rule ≡ Some positives ⌝ ∗ ⌜ positives ≤ 6 ⌝ ∗ ⌜ negatives ≤ 6 ⌝ }
     ensures { λ r. ⌜ r ≡ unless (bodyFault (Stamp·Order .isBefore) (Stamp·Order .isNotAfter) (B·Book .meaning (now (book .entry))) rule positives negatives (now (head .entry))) ⌝ }
 {
     for index in 0..positives + negatives {
-        if let Some(atom) = literal(book, rule, positives, index) {
-            check_literal(book, Place { rule, positives, index }, atom, head)?;
-        }
+        check_literal(book, rule, positives, index, head)?;
     }
     Ok(())
 }
