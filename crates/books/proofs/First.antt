@@ -11,7 +11,8 @@ use mathlib.Core.Bool.{cond, _||_}
 use lib.Dec.{ltb}
 use Rattle.std.proofs.shelf.Tests.{cases-lt, le-ltb}
 use Rattle.std.specs.declared.result.Result.the-variants.{Ok, Err}
-use Rattle.books.specs.Check.{orElse, firstBelow, unless}
+use Rattle.std.specs.Options.{orOther}
+use Rattle.books.specs.Check.{firstBelow, unless}
 use Rattle.books.specs.declared.fault.CheckFault.{CheckFault}
 use Rattle.books.specs.declared.fault.Fault.{Fault}
 
@@ -32,7 +33,7 @@ module _ {X : Type 0} (f : ℕ → Option X) where
   abbrev Found : ℕ → X → Type 0
   Found n x = (i : ℕ) × (i < n) × (f i ≡ Some x) × (firstBelow i f ≡ None)
 
-  found-last : (n : ℕ) (x : X) (o : Option X) → firstBelow n f ≡ o → orElse o (f n) ≡ Some x → (firstBelow n f ≡ Some x → Found n x) → Found (suc n) x
+  found-last : (n : ℕ) (x : X) (o : Option X) → firstBelow n f ≡ o → orOther o (f n) ≡ Some x → (firstBelow n f ≡ Some x → Found n x) → Found (suc n) x
   found-last n x (Some y) e h below = let r = below (e ∙ h) in (r .0, omega (arith, r .1), r .2, r .3)
   found-last n x None e h below = (n, omega arith, h, e)
 
@@ -40,7 +41,7 @@ module _ {X : Type 0} (f : ℕ → Option X) where
   first-at zero x h = let z : _≡_ {A = ℕ} 0 1 = cc in absurd (omega arith)
   first-at (suc n) x h = found-last n x (firstBelow n f) refl h (first-at n x)
 
-  none-both : (o q : Option X) → orElse o q ≡ None → (o ≡ None) × (q ≡ None)
+  none-both : (o q : Option X) → orOther o q ≡ None → (o ≡ None) × (q ≡ None)
   none-both None q e = (refl, e)
   none-both (Some x) q e = let z : _≡_ {A = ℕ} 0 1 = cc in absurd (omega arith)
 

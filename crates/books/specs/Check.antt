@@ -4,6 +4,7 @@ use mathlib.Core.Bool.{Bool, cond, _||_}
 use lib.Dec.{ltb}
 use lib.ListN.{length}
 use Rattle.std.specs.Finite.{nth}
+use Rattle.std.specs.Options.{orOther}
 use Rattle.std.specs.declared.option.Option.{Option}
 use Rattle.std.specs.declared.option.Option.the-variants.{Some, None}
 use Rattle.std.specs.declared.result.Result.{Result}
@@ -14,15 +15,10 @@ use Rattle.books.specs.declared.fault.CheckFault.the-variants.{TooLarge, BodyT
 use Rattle.books.specs.declared.fault.Fault.{Fault}
 use Rattle.books.specs.declared.fault.Fault.the-variants.{Checking}
 
--- the first of two, where there is one
-abbrev pub orElse : {X : Type 0} → Option X → Option X → Option X
-orElse (Some x) o = Some x
-orElse None o = o
-
 -- the first that f gives at the numbers below n
 abbrev pub firstBelow : {X : Type 0} → ℕ → (ℕ → Option X) → Option X
 firstBelow zero f = None
-firstBelow (suc n) f = orElse (firstBelow n f) (f n)
+firstBelow (suc n) f = orOther (firstBelow n f) (f n)
 
 -- a literal's fault, given its atom's stamp: the atom is missing, or its stamp does not fit the head's
 abbrev pub stampFault : {S : Type 0} → (S → Bool) → CheckFault → CheckFault → Option S → Option CheckFault

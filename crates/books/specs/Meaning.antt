@@ -4,6 +4,7 @@ use mathlib.Core.Bool.{Bool}
 use mathlib.Core.List.{List, _++_}
 use lib.ListN.{length}
 use Rattle.std.specs.Finite.{nth}
+use Rattle.std.specs.Options.{mapped, flattened}
 use Rattle.std.specs.declared.option.Option.{Option}
 use Rattle.std.specs.declared.option.Option.the-variants.{Some, None}
 
@@ -23,36 +24,31 @@ pub record Meaning (S : Type 0) : Type 0 where
   pub atoms : List (Atom S)
   pub rules : List (Option Rule)
 
--- what f makes of the thing that is there, if one is
-abbrev pub onSome : {X Y : Type 0} → (X → Y) → Option X → Option Y
-onSome f None = None
-onSome f (Some x) = Some (f x)
-
--- the same, where f itself may find nothing
+-- what f finds for the thing that is there, if one is
 abbrev pub bindSome : {X Y : Type 0} → (X → Option Y) → Option X → Option Y
 bindSome f None = None
 bindSome f (Some x) = f x
 
 -- the rule of that number; none beyond the count and for a vacant number
 abbrev pub ruleAt : {S : Type 0} → Meaning S → ℕ → Option Rule
-ruleAt m k = bindSome (λ r. r) (nth (m .rules) k)
+ruleAt m k = flattened (nth (m .rules) k)
 
 -- the atom's stamp; none beyond the count
 abbrev pub stampOf : {S : Type 0} → Meaning S → ℕ → Option S
-stampOf m a = onSome (λ (x : Atom _). x .stamp) (nth (m .atoms) a)
+stampOf m a = mapped (λ (x : Atom _). x .stamp) (nth (m .atoms) a)
 
 -- whether the atom is a reading; none beyond the count
 abbrev pub readingOf : {S : Type 0} → Meaning S → ℕ → Option Bool
-readingOf m a = onSome (λ (x : Atom _). x .reading) (nth (m .atoms) a)
+readingOf m a = mapped (λ (x : Atom _). x .reading) (nth (m .atoms) a)
 
 abbrev pub headOf : {S : Type 0} → Meaning S → ℕ → Option ℕ
-headOf m k = onSome (λ (r : Rule). r .head) (ruleAt m k)
+headOf m k = mapped (λ (r : Rule). r .head) (ruleAt m k)
 
 abbrev pub positiveCountOf : {S : Type 0} → Meaning S → ℕ → Option ℕ
-positiveCountOf m k = onSome (λ (r : Rule). length (r .positives)) (ruleAt m k)
+positiveCountOf m k = mapped (λ (r : Rule). length (r .positives)) (ruleAt m k)
 
 abbrev pub negativeCountOf : {S : Type 0} → Meaning S → ℕ → Option ℕ
-negativeCountOf m k = onSome (λ (r : Rule). length (r .negatives)) (ruleAt m k)
+negativeCountOf m k = mapped (λ (r : Rule). length (r .negatives)) (ruleAt m k)
 
 -- positive atom i of the rule; none beyond the list's length
 abbrev pub positiveOf : {S : Type 0} → Meaning S → ℕ → ℕ → Option ℕ

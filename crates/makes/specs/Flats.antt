@@ -1,0 +1,18 @@
+-- What the rows of a flat book mean.
+use mathlib.Core.List.{List, map}
+use Rattle.std.specs.declared.option.Option.{Option}
+use Rattle.std.specs.Options.{mapped}
+use Rattle.books.specs.Meaning.{Rule, Atom, Meaning}
+use Rattle.makes.specs.Bodies.{bodyAtoms}
+use Rattle.makes.specs.declared.rows.AtomRow.{AtomRow}
+use Rattle.makes.specs.declared.rows.RuleRow.{RuleRow}
+
+abbrev pub atomOf : {S : Type 0} → AtomRow S → Atom S
+atomOf a = record { stamp = a .stamp; reading = a .reading }
+
+abbrev pub ruleOf : RuleRow → Rule
+ruleOf r = record { head = r .head; positives = bodyAtoms (r .positives); negatives = bodyAtoms (r .negatives) }
+
+-- row k is atom or rule number k; a rule number whose row is None is vacant
+abbrev pub flatMeaning : {S : Type 0} → List (AtomRow S) → List (Option RuleRow) → Meaning S
+flatMeaning atoms rules = record { atoms = map atomOf atoms; rules = map (mapped ruleOf) rules }

@@ -1,0 +1,4 @@
+// The makes of books.
+pub mod body;
+pub mod flat;
+pub mod rows;
