@@ -3,6 +3,7 @@ ghost use mathlib.Core.Path.{_≡_};
 ghost use Prim.Native.Nat.{_≤_, _<_};
 ghost use Rattle.std.specs.declared.option.Option.the-variants.{Some};
 ghost use Rattle.books.specs.Check.{unless, literalFault, bodyFault, ruleFault, bookFault};
+ghost use Rattle.books.specs.Judged.{Judged};
 ghost use Rattle.books.specs.Meaning.{positiveCountOf, literalOf};
 use crate::book::Book;
 use crate::fault::CheckFault;
@@ -84,7 +85,8 @@ pub fn check_rule<B: Book>(book: &B, rule: usize) -> Result<(), Fault>
 
 // Both counts, then the rules by number, up to the first fault.
 pub fn check<B: Book>(book: &B) -> Result<(), Fault>
-    ensures { λ r. ⌜ r ≡ unless (bookFault (Stamp·Order .isBefore) (Stamp·Order .isNotAfter) (B·Book .meaning (now (book .entry)))) ⌝ }
+    ensures answer { λ r. ⌜ r ≡ unless (bookFault (Stamp·Order .isBefore) (Stamp·Order .isNotAfter) (B·Book .meaning (now (book .entry)))) ⌝ }
+    ensures judged { λ r. ⌜ Judged (Stamp·Order .isBefore) (Stamp·Order .isNotAfter) (B·Book .meaning (now (book .entry))) r ⌝ }
 {
     if book.atom_count() > MAX_ATOMS || book.rule_count() > MAX_RULES {
         return Err(Fault::Checking(CheckFault::TooLarge));
