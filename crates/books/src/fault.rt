@@ -1,6 +1,7 @@
 // Refusals: what was refused, with its layer, number and values.
 ghost use mathlib.Core.Path.{_≡_};
 ghost use Rattle.books.specs.Faults.{refusalOf};
+use std::fmt;
 
 // The part of the product that refused.
 #[derive(Clone, Copy, PartialEq, Eq, Debug)]
@@ -65,5 +66,24 @@ impl Fault {
                 }
             }
         }
+    }
+}
+
+pub impl fmt::Display for Layer as LayerDisplay {
+    fn fmt<W: fmt::Write>(&self, f: &mut fmt::Formatter<W>) -> fmt::Result {
+        match self {
+            Layer::Reading => write!(f, "reading"),
+            Layer::Checking => write!(f, "checking"),
+            Layer::Running => write!(f, "running"),
+        }
+    }
+}
+
+pub impl fmt::Display for Refusal as RefusalDisplay {
+    fn fmt<W: fmt::Write>(&self, f: &mut fmt::Formatter<W>) -> fmt::Result {
+        let layer = self.layer;
+        let number = self.number;
+        let Values::RuleLiteral(rule, literal) = self.values;
+        write!(f, "refusal {number} ({layer}) at rule {rule}, literal {literal}")
     }
 }

@@ -1,9 +1,9 @@
 // What a body holds, by the list that it stands for.
 ghost use lib.ListN.{length};
 ghost use mathlib.Core.Path.{_≡_};
-ghost use Prim.Native.Nat.{_≤_, _<_};
+ghost use lib.Dec.{leb};
 ghost use Rattle.std.specs.Finite.{nth};
-ghost use Rattle.std.specs.Options.{Cases};
+ghost use Rattle.std.specs.Options.{mapped, whenTrue};
 ghost use Rattle.makes.specs.Bodies.{bodyAtoms};
 use crate::body::Body;
 
@@ -23,7 +23,7 @@ impl Body {
 
     // A body of these atoms; none where there are more than six.
     pub fn of(atoms: &[usize]) -> Option<Body>
-        ensures { λ r. ⌜ Cases r (6 < length (now (atoms .entry))) (λ b. bodyAtoms b ≡ now (atoms .entry)) ⌝ }
+        ensures { λ r. ⌜ mapped bodyAtoms r ≡ whenTrue (leb (length (now (atoms .entry))) 6) (now (atoms .entry)) ⌝ }
     {
         if atoms.len() > 6 {
             return None;

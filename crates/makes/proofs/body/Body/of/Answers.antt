@@ -5,6 +5,9 @@ use native.Mathlib.Omega.{arith}
 use lib.ListN.{length, getD, take, length-set}
 use lib.Seq.{take-all}
 use Rattle.std.proofs.shelf.Lists.{take-more, take-more-set}
+use Rattle.std.specs.Options.{whenTrue}
+use Rattle.std.specs.declared.option.Option.the-variants.{Some}
+use Rattle.std.proofs.shelf.Tests.{le-leb}
 use Rattle.makes.proofs.body.Body.of.Needs as need
 
 pub loop-i-again : need.loop-i-again
@@ -22,4 +25,5 @@ pub returns : need.returns
 returns c =
     let atoms = c .args .atoms .now in
     let done : c .loop-i .i ≡ length atoms = omega arith in
-    ap (λ n. take n (c .loop-i .places)) (sym done) ∙ c .loop-i .inv .1 ∙ take-all (c .loop-i .i) atoms (c .loop-i-test .left)
+    let same : take (length atoms) (c .loop-i .places) ≡ atoms = ap (λ n. take n (c .loop-i .places)) (sym done) ∙ c .loop-i .inv .1 ∙ take-all (c .loop-i .i) atoms (c .loop-i-test .left) in
+    ap Some same ∙ sym (ap (λ b. whenTrue b atoms) (le-leb (length atoms) 6 (c .if-atoms-gt6 .left)))
