@@ -11,7 +11,11 @@ pub struct RuleLine<'a, B> {
     pub names: &'a [&'a str],
 }
 
-fn write_atom<B: Book, W: fmt::Write>(line: &RuleLine<'_, B>, atom: usize, f: &mut fmt::Formatter<W>) -> fmt::Result
+fn write_atom<B: Book, W: fmt::Write>(
+    line: &RuleLine<'_, B>,
+    atom: usize,
+    f: &mut fmt::Formatter<W>,
+) -> fmt::Result
 where
     B::Stamp: Display,
 {
@@ -26,7 +30,11 @@ where
 }
 
 fn write_joint<W: fmt::Write>(first: bool, f: &mut fmt::Formatter<W>) -> fmt::Result {
-    if first { write!(f, " if ") } else { write!(f, " and ") }
+    if first {
+        write!(f, " if ")
+    } else {
+        write!(f, " and ")
+    }
 }
 
 pub impl<B: Book> Display for RuleLine<'_, B> as RuleLineDisplay

@@ -27,14 +27,24 @@ const NAMES: [&str; 6] = [
 ];
 
 fn reading(tick: u32) -> AtomRow<Tick> {
-    AtomRow { stamp: Tick(tick), reading: true }
+    AtomRow {
+        stamp: Tick(tick),
+        reading: true,
+    }
 }
 
 fn derived(tick: u32) -> AtomRow<Tick> {
-    AtomRow { stamp: Tick(tick), reading: false }
+    AtomRow {
+        stamp: Tick(tick),
+        reading: false,
+    }
 }
 
-fn rule(head: usize, positives: &[usize], negatives: &[usize]) -> Result<Option<RuleRow>, AnyError> {
+fn rule(
+    head: usize,
+    positives: &[usize],
+    negatives: &[usize],
+) -> Result<Option<RuleRow>, AnyError> {
     match RuleRow::of(head, positives, negatives) {
         Some(row) => Ok(Some(row)),
         None => Err("a list has more than six atoms".into()),
@@ -63,7 +73,14 @@ where
 }
 
 fn run(rt: &LibcRuntime) -> Result<(), AnyError> {
-    let atoms = [reading(1), reading(2), derived(2), derived(3), derived(3), derived(3)];
+    let atoms = [
+        reading(1),
+        reading(2),
+        derived(2),
+        derived(3),
+        derived(3),
+        derived(3),
+    ];
     let mut rules = [
         rule(2, &[1], &[])?,
         rule(3, &[0], &[2])?,
@@ -73,10 +90,27 @@ fn run(rt: &LibcRuntime) -> Result<(), AnyError> {
         None,
     ];
     println!(rt, "a grant that leans on no closure, and a way round")?;
-    show(rt, &Flat { atoms: &atoms, rules: &rules }, &NAMES)?;
-    println!(rt, "the same, but the grant leans on a way round at its own tick")?;
+    show(
+        rt,
+        &Flat {
+            atoms: &atoms,
+            rules: &rules,
+        },
+        &NAMES,
+    )?;
+    println!(
+        rt,
+        "the same, but the grant leans on a way round at its own tick"
+    )?;
     rules[1] = rule(3, &[0], &[4])?;
-    show(rt, &Flat { atoms: &atoms, rules: &rules }, &NAMES)
+    show(
+        rt,
+        &Flat {
+            atoms: &atoms,
+            rules: &rules,
+        },
+        &NAMES,
+    )
 }
 
 fn main(rt: LibcRuntime) -> Result<(), AnyError> {

@@ -26,8 +26,9 @@ module _ {X : Type 0} (f : ℕ → Option X) where
   first-found i zero x h e l = absurd (not-suc-le-zero l)
   first-found i (suc n) x h e l =
       elim (cases-lt i n) [
-        inl below ↦ rw (first-found i n x h e below) refl
-      | inr past ↦ let same : n ≡ i = omega arith in rw (same, h, e) refl ]
+        | inl below ↦ rw (first-found i n x h e below) refl
+        | inr past ↦ let same : n ≡ i = omega arith in rw (same, h, e) refl
+      ]
 
   -- what is found stands somewhere, with nothing before it
   abbrev Found : ℕ → X → Type 0
@@ -51,8 +52,9 @@ module _ {X : Type 0} (f : ℕ → Option X) where
   first-none (suc n) h i l =
       let both = none-both (firstBelow n f) (f n) h in
       elim (cases-lt i n) [
-        inl below ↦ first-none n (both .0) i below
-      | inr past ↦ let same : i ≡ n = omega arith in ap f same ∙ both .1 ]
+        | inl below ↦ first-none n (both .0) i below
+        | inr past ↦ let same : i ≡ n = omega arith in ap f same ∙ both .1
+      ]
 
   pub first-all : (n : ℕ) → ((i : ℕ) → i < n → f i ≡ None) → firstBelow n f ≡ None
   first-all zero h = refl

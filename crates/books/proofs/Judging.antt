@@ -103,9 +103,10 @@ module _ {S : Type 0} (before notAfter : S → S → Bool) (m : Meaning S) where
       literal-ordered i a e f s h es eh =
           let q = literal-none before notAfter k p (x .stamp) i (stampOf m a) (found-none (x .stamp) i (nth (literals r) i) (sym (literal-at (x .stamp) i) ∙ e) a f) in
           let same = one (stampOf m a) (q .0) s (q .1) es in
-          let level = one (stampOf m (r .head)) (x .stamp) h head-stamp eh in
-          ((λ l. sym (ap (λ t. notAfter s t) level) ∙ (sym (ap (λ t. notAfter t (x .stamp)) same) ∙ q .2 l)),
-              (λ l. sym (ap (λ t. before s t) level) ∙ (sym (ap (λ t. before t (x .stamp)) same) ∙ q .3 l)))
+          let level = one (stampOf m (r .head)) (x .stamp) h head-stamp eh in (
+            (λ l. sym (ap (λ t. notAfter s t) level) ∙ (sym (ap (λ t. notAfter t (x .stamp)) same) ∙ q .2 l)),
+            (λ l. sym (ap (λ t. before s t) level) ∙ (sym (ap (λ t. before t (x .stamp)) same) ∙ q .3 l)),
+          )
 
       -- all tests before step n have passed, given so of the literals
       passed-to : (n : ℕ) → ((i a : ℕ) → nth (literals r) i ≡ Some a → 2 * (i + 1) + 1 < n → a < length (m .atoms)) → ((i a : ℕ) → nth (literals r) i ≡ Some a → 2 * (i + 1) + 2 < n → faultAt i ≡ None) → Passed r n
@@ -125,22 +126,26 @@ module _ {S : Type 0} (before notAfter : S → S → Bool) (m : Meaning S) where
       passed-this i clear a found s there =
           passed-to (2 * (i + 1) + 2)
           (λ j b g l. elim (cases-lt j i) [
-              inl below ↦ literal-there j b (first-none faultAt i clear j below) g
+            | inl below ↦ literal-there j b (first-none faultAt i clear j below) g
             | inr past ↦
                 let same : j ≡ i = omega arith in
                 let y = mapped-some (λ (y : Atom S). y .stamp) (nth (m .atoms) a) s there in
                 let b-is = one (nth (literals r) i) a b found (ap (nth (literals r)) (sym same) ∙ g) in
-                subst (λ c. c < length (m .atoms)) b-is (nth-some (m .atoms) a (y .0) (y .1)) ])
+                subst (λ c. c < length (m .atoms)) b-is (nth-some (m .atoms) a (y .0) (y .1))
+          ])
           (λ j b g l. first-none faultAt i clear j (omega arith))
 
       -- the outcome at the first literal that is at fault
       at-literal : (i : ℕ) → firstBelow i faultAt ≡ None → (a : ℕ) → nth (literals r) i ≡ Some a → (f : CheckFault) → AtFault before notAfter k p (x .stamp) i (stampOf m a) f → Outcome k r (Some f)
       at-literal i clear a found f (missing gone e) =
-          subst (λ g. Outcome k r (Some g)) (sym e)
-          ((r, at, (i, refl, (a, found, nth-none (m .atoms) a (mapped-none (λ (y : Atom S). y .stamp) (nth (m .atoms) a) gone)))), refl, refl,
-              passed-to (2 * (i + 1) + 1)
-              (λ j b g l. literal-there j b (first-none faultAt i clear j (omega arith)) g)
-              (λ j b g l. first-none faultAt i clear j (omega arith)))
+          subst (λ g. Outcome k r (Some g)) (sym e) (
+            (r, at, (i, refl, (a, found, nth-none (m .atoms) a (mapped-none (λ (y : Atom S). y .stamp) (nth (m .atoms) a) gone)))),
+            refl,
+            refl,
+            passed-to (2 * (i + 1) + 1)
+                (λ j b g l. literal-there j b (first-none faultAt i clear j (omega arith)) g)
+                (λ j b g l. first-none faultAt i clear j (omega arith)),
+          )
       at-literal i clear a found f (positive s there below bad e) =
           subst (λ g. Outcome k r (Some g)) (sym e)
           ((r, at, (i, refl, (a, found, (below, (s, x .stamp, there, head-stamp, bad))))), refl, refl, passed-this i clear a found s there)
@@ -159,41 +164,50 @@ module _ {S : Type 0} (before notAfter : S → S → Bool) (m : Meaning S) where
           at-literal (w .0) (w .3) (v .0) (v .1) f (literal-some before notAfter k p (x .stamp) (w .0) (stampOf m (v .0)) f (v .2))
 
     judge-reading : (x : Atom S) → nth (m .atoms) (r .head) ≡ Some x → (b : Bool) → x .reading ≡ b → Outcome k r (cond b (Some (HeadIsReading k)) (bodyFault before notAfter m k p (length (r .negatives)) (x .stamp)))
-    judge-reading x here true e =
-        ((r, at, ap (mapped (λ (y : Atom S). y .reading)) here ∙ ap Some e), refl, refl,
-            record {
-              lengths = λ _. few;
-              there = λ _. nth-some (m .atoms) (r .head) x here;
-              derived = λ l. absurd (omega arith);
-              literal = λ i a f l. absurd (omega arith);
-              ordered = λ i a f l. absurd (omega arith);
-            })
+    judge-reading x here true e = (
+      (r, at, ap (mapped (λ (y : Atom S). y .reading)) here ∙ ap Some e),
+      refl,
+      refl,
+      record {
+        lengths = λ _. few;
+        there = λ _. nth-some (m .atoms) (r .head) x here;
+        derived = λ l. absurd (omega arith);
+        literal = λ i a f l. absurd (omega arith);
+        ordered = λ i a f l. absurd (omega arith);
+      },
+    )
     judge-reading x here false e = judge-literals x here e _ refl
 
     judge-head : (o : Option (Atom S)) → nth (m .atoms) (r .head) ≡ o → Outcome k r (headFault before notAfter m k p (length (r .negatives)) o)
-    judge-head None e =
-        ((r, at, nth-none (m .atoms) (r .head) e), refl, refl,
-            record {
-              lengths = λ _. few;
-              there = λ l. absurd (omega arith);
-              derived = λ l. absurd (omega arith);
-              literal = λ i a f l. absurd (omega arith);
-              ordered = λ i a f l. absurd (omega arith);
-            })
+    judge-head None e = (
+      (r, at, nth-none (m .atoms) (r .head) e),
+      refl,
+      refl,
+      record {
+        lengths = λ _. few;
+        there = λ l. absurd (omega arith);
+        derived = λ l. absurd (omega arith);
+        literal = λ i a f l. absurd (omega arith);
+        ordered = λ i a f l. absurd (omega arith);
+      },
+    )
     judge-head (Some x) e = judge-reading x e (x .reading) refl
 
   judge-lengths : (k : ℕ) (r : Rule) → ruleAt m k ≡ Some r → (b : Bool) → (ltb 6 (length (r .positives)) || ltb 6 (length (r .negatives))) ≡ b → Outcome k r (cond b (Some (BodyTooLong k)) (headFault before notAfter m k (length (r .positives)) (length (r .negatives)) (nth (m .atoms) (r .head))))
   judge-lengths k r at true e =
       let long : (6 < length (r .positives)) ⊎ (6 < length (r .negatives)) =
-        elim (or-cases (ltb 6 (length (r .positives))) (ltb 6 (length (r .negatives))) e) [ inl t ↦ inl (ltb-true 6 (length (r .positives)) t) | inr t ↦ inr (ltb-true 6 (length (r .negatives)) t) ] in
-      ((r, at, long), refl, refl,
-          record {
-            lengths = λ l. absurd (omega arith);
-            there = λ l. absurd (omega arith);
-            derived = λ l. absurd (omega arith);
-            literal = λ i a f l. absurd (omega arith);
-            ordered = λ i a f l. absurd (omega arith);
-          })
+      elim (or-cases (ltb 6 (length (r .positives))) (ltb 6 (length (r .negatives))) e) [ inl t ↦ inl (ltb-true 6 (length (r .positives)) t) | inr t ↦ inr (ltb-true 6 (length (r .negatives)) t) ] in (
+        (r, at, long),
+        refl,
+        refl,
+        record {
+          lengths = λ l. absurd (omega arith);
+          there = λ l. absurd (omega arith);
+          derived = λ l. absurd (omega arith);
+          literal = λ i a f l. absurd (omega arith);
+          ordered = λ i a f l. absurd (omega arith);
+        },
+      )
   judge-lengths k r at false e =
       let short = or-parts (ltb 6 (length (r .positives))) (ltb 6 (length (r .negatives))) e in
       judge-head k r at (ltb-false 6 (length (r .positives)) (short .0), ltb-false 6 (length (r .negatives)) (short .1)) (nth (m .atoms) (r .head)) refl

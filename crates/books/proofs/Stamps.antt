@@ -48,8 +48,9 @@ module _ {S : Type 0} (before notAfter : S → S → Bool) (k p : ℕ) (h : S) (
   pub literal-none : (q : Option S) → faultBy q ≡ None → (s : S) × (q ≡ Some s) × (i < p → notAfter s h ≡ true) × (p ≤ i → before s h ≡ true)
   literal-none q e =
       elim (cases-lt i p) [
-        inl l ↦ let r = stamp-none (λ s. notAfter s h) _ _ q (sym (as-positive q l) ∙ e) in (r .0, r .1, (λ _. r .2), (λ g. absurd (omega arith)))
-      | inr l ↦ let r = stamp-none (λ s. before s h) _ _ q (sym (as-negative q l) ∙ e) in (r .0, r .1, (λ g. absurd (omega arith)), (λ _. r .2)) ]
+        | inl l ↦ let r = stamp-none (λ s. notAfter s h) _ _ q (sym (as-positive q l) ∙ e) in (r .0, r .1, (λ _. r .2), (λ g. absurd (omega arith)))
+        | inr l ↦ let r = stamp-none (λ s. before s h) _ _ q (sym (as-negative q l) ∙ e) in (r .0, r .1, (λ g. absurd (omega arith)), (λ _. r .2))
+      ]
 
   -- the three ways in which literal i + 1 is at fault
   pub data AtFault (q : Option S) (f : CheckFault) : Type 0 where
@@ -60,5 +61,6 @@ module _ {S : Type 0} (before notAfter : S → S → Bool) (k p : ℕ) (h : S) (
   pub literal-some : (q : Option S) (f : CheckFault) → faultBy q ≡ Some f → AtFault q f
   literal-some q f e =
       elim (cases-lt i p) [
-        inl l ↦ elim (stamp-some (λ s. notAfter s h) _ _ q f (sym (as-positive q l) ∙ e)) [ inl n ↦ missing (n .0) (n .1) | inr d ↦ positive (d .0) (d .1) l (d .2) (d .3) ]
-      | inr l ↦ elim (stamp-some (λ s. before s h) _ _ q f (sym (as-negative q l) ∙ e)) [ inl n ↦ missing (n .0) (n .1) | inr d ↦ negative (d .0) (d .1) l (d .2) (d .3) ] ]
+        | inl l ↦ elim (stamp-some (λ s. notAfter s h) _ _ q f (sym (as-positive q l) ∙ e)) [ inl n ↦ missing (n .0) (n .1) | inr d ↦ positive (d .0) (d .1) l (d .2) (d .3) ]
+        | inr l ↦ elim (stamp-some (λ s. before s h) _ _ q f (sym (as-negative q l) ∙ e)) [ inl n ↦ missing (n .0) (n .1) | inr d ↦ negative (d .0) (d .1) l (d .2) (d .3) ]
+      ]

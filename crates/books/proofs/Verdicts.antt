@@ -62,19 +62,19 @@ module _ {S : Type 0} (before notAfter : S → S → Bool) (m : Meaning S) where
     fewNegatives = c 1 .lengths (omega arith) .1;
     derived = c 3 .derived (omega arith);
     positives = all-nth (λ a. T (relates notAfter m a (r .head))) (r .positives) (λ i a e.
-      let l = nth-some (r .positives) i a e in
-      let f : nth (literals r) i ≡ Some a = nth-left (r .positives) (r .negatives) i l ∙ e in
-      let s = stamped m a (c (2 * (i + 1) + 2) .literal i a f (omega arith)) in
-      let h = stamped m (r .head) (c 2 .there (omega arith)) in
-      let ok = c (2 * (i + 1) + 3) .ordered i a f (omega arith) (s .0) (h .0) (s .1) (h .1) in
-      true-T (relates notAfter m a (r .head)) (relates-in m notAfter a (r .head) (s .0) (h .0) (s .1) (h .1) ∙ ok .0 l));
+        let l = nth-some (r .positives) i a e in
+        let f : nth (literals r) i ≡ Some a = nth-left (r .positives) (r .negatives) i l ∙ e in
+        let s = stamped m a (c (2 * (i + 1) + 2) .literal i a f (omega arith)) in
+        let h = stamped m (r .head) (c 2 .there (omega arith)) in
+        let ok = c (2 * (i + 1) + 3) .ordered i a f (omega arith) (s .0) (h .0) (s .1) (h .1) in
+        true-T (relates notAfter m a (r .head)) (relates-in m notAfter a (r .head) (s .0) (h .0) (s .1) (h .1) ∙ ok .0 l));
     negatives = all-nth (λ a. T (relates before m a (r .head))) (r .negatives) (λ j a e.
-      let i : ℕ = length (r .positives) + j in
-      let f : nth (literals r) i ≡ Some a = nth-right (r .positives) (r .negatives) j ∙ e in
-      let s = stamped m a (c (2 * (i + 1) + 2) .literal i a f (omega arith)) in
-      let h = stamped m (r .head) (c 2 .there (omega arith)) in
-      let ok = c (2 * (i + 1) + 3) .ordered i a f (omega arith) (s .0) (h .0) (s .1) (h .1) in
-      true-T (relates before m a (r .head)) (relates-in m before a (r .head) (s .0) (h .0) (s .1) (h .1) ∙ ok .1 (omega arith)));
+        let i : ℕ = length (r .positives) + j in
+        let f : nth (literals r) i ≡ Some a = nth-right (r .positives) (r .negatives) j ∙ e in
+        let s = stamped m a (c (2 * (i + 1) + 2) .literal i a f (omega arith)) in
+        let h = stamped m (r .head) (c 2 .there (omega arith)) in
+        let ok = c (2 * (i + 1) + 3) .ordered i a f (omega arith) (s .0) (h .0) (s .1) (h .1) in
+        true-T (relates before m a (r .head)) (relates-in m before a (r .head) (s .0) (h .0) (s .1) (h .1) ∙ ok .1 (omega arith)));
   }
 
   literal-positive : (r : Rule) (i a : ℕ) → nth (literals r) i ≡ Some a → i < length (r .positives) → nth (r .positives) i ≡ Some a
@@ -102,8 +102,9 @@ module _ {S : Type 0} (before notAfter : S → S → Bool) (m : Meaning S) where
       there = λ _. (let x = mapped-some (λ (y : Atom S). y .reading) (nth (m .atoms) (r .head)) false (s .derived) in nth-some (m .atoms) (r .head) (x .0) (x .1));
       derived = λ _. s .derived;
       literal = λ i a f _. elim (cases-lt i (length (r .positives))) [
-          inl l ↦ (let w = relates-out m notAfter a (r .head) (positive-relates i a f l) in there m a (w .0) (w .2))
-        | inr l ↦ (let w = relates-out m before a (r .head) (negative-relates i a f l) in there m a (w .0) (w .2)) ];
+        | inl l ↦ (let w = relates-out m notAfter a (r .head) (positive-relates i a f l) in there m a (w .0) (w .2))
+        | inr l ↦ (let w = relates-out m before a (r .head) (negative-relates i a f l) in there m a (w .0) (w .2))
+      ];
       ordered = λ i a f _ u h eu eh. ((λ l. passes notAfter a (positive-relates i a f l) u h eu eh), (λ l. passes before a (negative-relates i a f l) u h eu eh));
     }
 
@@ -122,8 +123,9 @@ module _ {S : Type 0} (before notAfter : S → S → Bool) (m : Meaning S) where
     refuted : (g : CheckFault) → (ofCounts g ≡ false → (r : Rule) → ruleAt m (ruleOf g) ≡ Some r → (n : ℕ) × (stepOf g < n) × Passed before notAfter m r n) → Breaks before notAfter m g → ⊥
     refuted g passed b =
         elim (broken-where g b) [
-          inl large ↦ elim large [ inl l ↦ omega arith | inr l ↦ omega arith ]
-        | inr w ↦ (let p = passed (w .0) (w .1 .0) (w .1 .1) in unbroken before notAfter m (w .1 .0) (p .0) (p .2) g (w .0) (w .1 .1) (p .1) b) ]
+          | inl large ↦ elim large [ inl l ↦ omega arith | inr l ↦ omega arith ]
+          | inr w ↦ (let p = passed (w .0) (w .1 .0) (w .1 .1) in unbroken before notAfter m (w .1 .0) (p .0) (p .2) g (w .0) (w .1 .1) (p .1) b)
+        ]
 
   -- a sound book has no fault
   sound-unbroken : Sound before notAfter m → (g : CheckFault) → Breaks before notAfter m g → ⊥
@@ -152,12 +154,16 @@ module _ {S : Type 0} (before notAfter : S → S → Bool) (m : Meaning S) where
     first-rule : (k : ℕ) (f : CheckFault) → ruleFault before notAfter m k ≡ Some f → firstBelow k (ruleFault before notAfter m) ≡ None → BookOutcome (Some f)
     first-rule k f e clear =
         let r = faulty-rule k f e in
-        let out = subst (Outcome before notAfter m k (r .0)) e (judge-rule before notAfter m k (r .0) (r .1)) in
-        (out .0, λ g pre. elim (pre .1) [
-            inl counts ↦ refuted atoms rules g (λ rule. absurd (clash (ofCounts g) counts rule))
-          | inr w ↦ elim w [
-              inl below ↦ refuted atoms rules g (λ _ q at. (suc (stepOf g), omega arith, clean-rule (ruleOf g) (first-none (ruleFault before notAfter m) k clear (ruleOf g) (omega (arith, out .2))) q at (suc (stepOf g))))
-            | inr same ↦ refuted atoms rules g (λ _ q at. (stepOf f, same .1, subst (λ (x : Rule). Passed before notAfter m x (stepOf f)) (one (ruleAt m k) (r .0) q (r .1) (ap (ruleAt m) (sym (same .0 ∙ out .2)) ∙ at)) (out .3))) ] ])
+        let out = subst (Outcome before notAfter m k (r .0)) e (judge-rule before notAfter m k (r .0) (r .1)) in (
+          out .0,
+          λ g pre. elim (pre .1) [
+            | inl counts ↦ refuted atoms rules g (λ rule. absurd (clash (ofCounts g) counts rule))
+            | inr w ↦ elim w [
+              | inl below ↦ refuted atoms rules g (λ _ q at. (suc (stepOf g), omega arith, clean-rule (ruleOf g) (first-none (ruleFault before notAfter m) k clear (ruleOf g) (omega (arith, out .2))) q at (suc (stepOf g))))
+              | inr same ↦ refuted atoms rules g (λ _ q at. (stepOf f, same .1, subst (λ (x : Rule). Passed before notAfter m x (stepOf f)) (one (ruleAt m k) (r .0) q (r .1) (ap (ruleAt m) (sym (same .0 ∙ out .2)) ∙ at)) (out .3)))
+            ]
+          ],
+        )
 
     judge-rules : (o : Option CheckFault) → firstBelow (length (m .rules)) (ruleFault before notAfter m) ≡ o → BookOutcome o
     judge-rules None e = record {
@@ -168,9 +174,10 @@ module _ {S : Type 0} (before notAfter : S → S → Bool) (m : Meaning S) where
     judge-rules (Some f) e = let w = first-at (ruleFault before notAfter m) (length (m .rules)) f e in first-rule (w .0) f (w .2) (w .3)
 
   judge-book : (b : Bool) → (ltb 1024 (length (m .atoms)) || ltb 1024 (length (m .rules))) ≡ b → BookOutcome (cond b (Some TooLarge) (firstBelow (length (m .rules)) (ruleFault before notAfter m)))
-  judge-book true e =
-      (elim (or-cases (ltb 1024 (length (m .atoms))) (ltb 1024 (length (m .rules))) e) [ inl t ↦ inl (ltb-true 1024 (length (m .atoms)) t) | inr t ↦ inr (ltb-true 1024 (length (m .rules)) t) ],
-          λ g pre. absurd (clash true refl (pre .0)))
+  judge-book true e = (
+    elim (or-cases (ltb 1024 (length (m .atoms))) (ltb 1024 (length (m .rules))) e) [ inl t ↦ inl (ltb-true 1024 (length (m .atoms)) t) | inr t ↦ inr (ltb-true 1024 (length (m .rules)) t) ],
+    λ g pre. absurd (clash true refl (pre .0)),
+  )
   judge-book false e =
       let few = or-parts (ltb 1024 (length (m .atoms))) (ltb 1024 (length (m .rules))) e in
       judge-rules (ltb-false 1024 (length (m .atoms)) (few .0)) (ltb-false 1024 (length (m .rules)) (few .1)) _ refl

@@ -30,8 +30,8 @@ abbrev pub literalFault : {S : Type 0} → (S → S → Bool) → (S → S → B
 literalFault before notAfter m k p h i =
     bindSome
     (λ a. cond (ltb i p)
-        (stampFault (λ s. notAfter s h) (LiteralMissing k (i + 1)) (PositiveOutOfOrder k (i + 1)) (stampOf m a))
-        (stampFault (λ s. before s h) (LiteralMissing k (i + 1)) (NegativeOutOfOrder k (i + 1)) (stampOf m a)))
+    (stampFault (λ s. notAfter s h) (LiteralMissing k (i + 1)) (PositiveOutOfOrder k (i + 1)) (stampOf m a))
+    (stampFault (λ s. before s h) (LiteralMissing k (i + 1)) (NegativeOutOfOrder k (i + 1)) (stampOf m a)))
     (literalOf m k i)
 
 -- the first fault among the literals of rule k, which has p positives and n negatives
@@ -48,8 +48,8 @@ abbrev pub ruleFault : {S : Type 0} → (S → S → Bool) → (S → S → Bool
 ruleFault before notAfter m k =
     bindSome
     (λ r. cond (ltb 6 (length (r .positives)) || ltb 6 (length (r .negatives)))
-        (Some (BodyTooLong k))
-        (headFault before notAfter m k (length (r .positives)) (length (r .negatives)) (nth (m .atoms) (r .head))))
+    (Some (BodyTooLong k))
+    (headFault before notAfter m k (length (r .positives)) (length (r .negatives)) (nth (m .atoms) (r .head))))
     (ruleAt m k)
 
 -- the first fault of the book: both counts, then the rules by number

@@ -2,7 +2,7 @@
 ghost use mathlib.Core.Path.{_≡_};
 ghost use Prim.Native.Nat.{_≤_, _<_};
 ghost use Rattle.std.specs.declared.option.Option.the-variants.{Some};
-ghost use Rattle.books.specs.Check.{unless, literalFault, bodyFault, ruleFault, bookFault};
+ghost use Rattle.books.specs.Check.{unless, firstBelow, literalFault, ruleFault, bookFault};
 ghost use Rattle.books.specs.Judged.{Judged};
 ghost use Rattle.books.specs.Meaning.{positiveCountOf, literalOf};
 use crate::book::Book;
@@ -11,7 +11,9 @@ use crate::fault::Fault;
 use stamps::order::Order;
 
 pub const MAX_ATOMS: usize = 1024;
+
 pub const MAX_RULES: usize = 1024;
+
 pub const MAX_BODY: usize = 6;
 
 // The atom at `index` among the rule's literals, positives first.
@@ -27,7 +29,13 @@ fn literal<B: Book>(book: &B, rule: usize, positives: usize, index: usize) -> Op
 }
 
 // One literal: its atom is there, and its stamp is not after the head's if positive, before it if negative.
-fn check_literal<B: Book>(book: &B, rule: usize, positives: usize, index: usize, head: &B::Stamp) -> Result<(), Fault>
+fn check_literal<B: Book>(
+    book: &B,
+    rule: usize,
+    positives: usize,
+    index: usize,
+    head: &B::Stamp,
+) -> Result<(), Fault>
     requires { ⌜ positiveCountOf (B·Book .meaning (now book)) rule ≡ Some positives ⌝ ∗ ⌜ index < 12 ⌝ }
     ensures { λ r. ⌜ r ≡ unless (literalFault (Stamp·Order .isBefore) (Stamp·Order .isNotAfter) (B·Book .meaning (now (book .entry))) rule positives (now (head .entry)) index) ⌝ }
 {
@@ -51,12 +59,18 @@ fn check_literal<B: Book>(book: &B, rule: usize, positives: usize, index: usize,
     }
 }
 
-// The literals in order, up to the first fault.
-fn check_body<B: Book>(book: &B, rule: usize, positives: usize, negatives: usize, head: &B::Stamp) -> Result<(), Fault>
-    requires { ⌜ positiveCountOf (B·Book .meaning (now book)) rule ≡ Some positives ⌝ ∗ ⌜ positives ≤ 6 ⌝ ∗ ⌜ negatives ≤ 6 ⌝ }
-    ensures { λ r. ⌜ r ≡ unless (bodyFault (Stamp·Order .isBefore) (Stamp·Order .isNotAfter) (B·Book .meaning (now (book .entry))) rule positives negatives (now (head .entry))) ⌝ }
+// The first `count` literals in order, up to the first fault.
+fn check_body<B: Book>(
+    book: &B,
+    rule: usize,
+    positives: usize,
+    count: usize,
+    head: &B::Stamp,
+) -> Result<(), Fault>
+    requires { ⌜ positiveCountOf (B·Book .meaning (now book)) rule ≡ Some positives ⌝ ∗ ⌜ count ≤ 12 ⌝ }
+    ensures { λ r. ⌜ r ≡ unless (firstBelow count (literalFault (Stamp·Order .isBefore) (Stamp·Order .isNotAfter) (B·Book .meaning (now (book .entry))) rule positives (now (head .entry)))) ⌝ }
 {
-    for index in 0..positives + negatives {
+    for index in 0..count {
         check_literal(book, rule, positives, index, head)?;
     }
     Ok(())
@@ -66,9 +80,11 @@ fn check_body<B: Book>(book: &B, rule: usize, positives: usize, negatives: usize
 pub fn check_rule<B: Book>(book: &B, rule: usize) -> Result<(), Fault>
     ensures { λ r. ⌜ r ≡ unless (ruleFault (Stamp·Order .isBefore) (Stamp·Order .isNotAfter) (B·Book .meaning (now (book .entry))) rule) ⌝ }
 {
-    let (Some(head), Some(positives), Some(negatives)) =
-        (book.head(rule), book.positive_count(rule), book.negative_count(rule))
-    else {
+    let (Some(head), Some(positives), Some(negatives)) = (
+        book.head(rule),
+        book.positive_count(rule),
+        book.negative_count(rule),
+    ) else {
         return Ok(());
     };
     if positives > MAX_BODY || negatives > MAX_BODY {
@@ -80,7 +96,7 @@ pub fn check_rule<B: Book>(book: &B, rule: usize) -> Result<(), Fault>
     if reading {
         return Err(Fault::Checking(CheckFault::HeadIsReading { rule }));
     }
-    check_body(book, rule, positives, negatives, &stamp)
+    check_body(book, rule, positives, positives + negatives, &stamp)
 }
 
 // Both counts, then the rules by number, up to the first fault.

@@ -84,6 +84,9 @@ pub impl fmt::Display for Refusal as RefusalDisplay {
         let layer = self.layer;
         let number = self.number;
         let Values::RuleLiteral(rule, literal) = self.values;
-        write!(f, "refusal {number} ({layer}) at rule {rule}, literal {literal}")
+        write!(
+            f,
+            "refusal {number} ({layer}) at rule {rule}, literal {literal}"
+        )
     }
 }

@@ -7,10 +7,10 @@ use mathlib.Core.Path.{_≡_, refl, sym, ap, _∙_, subst}
 use mathlib.Core.Logic.{_⊎_, inl, inr}
 use mathlib.Core.Bool.{Bool, true, false, not, _&&_, _||_}
 use lib.Dec.{T, eqb, T-not, not-T}
-use lib.Bits.{bitAnd, and-zero-l, and-le-l, and-block, and-mod, and-comm}
+use lib.Bits.{bitAnd, and-zero-l, and-le-l, and-block}
 use Rattle.std.proofs.shelf.Bits.{mod-pow-add, mod-below, pow-pos}
 use Rattle.std.proofs.shelf.Ways.{tells}
-use Rattle.stamps.specs.Aisles.{hasAisle, sharesAisle, sharesBelow, partOf}
+use Rattle.stamps.specs.Aisles.{hasAisle, sharesAisle, sharesBelow, partOf, properPart}
 
 -- one bit more, x over r and y over s
 bit-more : (p x y r s : ℕ) → x < 2 → y < 2 → 0 < p → eqb (bitAnd x y * p + bitAnd r s) (x * p + r) ≡ ((not (eqb x 1) || eqb y 1) && eqb (bitAnd r s) r)
@@ -43,10 +43,6 @@ shares-mask a b (suc k) =
 pub part-mask : (a b : ℕ) → a < 2 ^ 64 → b < 2 ^ 64 → partOf a b ≡ eqb (bitAnd a b) a
 unfolding partOf
 part-mask a b ha hb = shares-mask a b 64 ∙ (rw (mod-eq-of-lt ha, mod-eq-of-lt hb) refl)
-
--- before, on masks of 64 bits: part of, and another mask
-pub before-mask : (a b : ℕ) → a < 2 ^ 64 → b < 2 ^ 64 → (partOf a b && not (partOf b a)) ≡ (eqb (bitAnd a b) a && not (eqb a b))
-before-mask a b ha hb = rw (part-mask a b ha hb, part-mask b a hb ha) (let e = and-comm a b in grind (arith, tells))
 
 and-T : (x y : Bool) → T (x && y) → T x × T y
 and-T true y t = (tt, t)
@@ -86,17 +82,13 @@ pub part-trans : (a b c : ℕ) → T (partOf a b) → T (partOf b c) → T (part
 unfolding partOf
 part-trans a b c p q = shares-trans a b c 64 p q
 
--- a part that is not the whole, as a test
-abbrev proper : ℕ → ℕ → Bool
-proper a b = partOf a b && not (partOf b a)
-
-pub proper-left : (a b c : ℕ) → T (proper a b) → T (partOf b c) → T (proper a c)
+pub proper-left : (a b c : ℕ) → T (properPart a b) → T (partOf b c) → T (properPart a c)
 proper-left a b c p q =
     let p′ = and-T (partOf a b) (not (partOf b a)) p in
     and-both (partOf a c) (not (partOf c a)) (part-trans a b c (p′ .0) q)
     (not-T (partOf c a) (λ r. T-not (partOf b a) (p′ .1) (part-trans b c a q r)))
 
-pub proper-right : (a b c : ℕ) → T (partOf a b) → T (proper b c) → T (proper a c)
+pub proper-right : (a b c : ℕ) → T (partOf a b) → T (properPart b c) → T (properPart a c)
 proper-right a b c p q =
     let q′ = and-T (partOf b c) (not (partOf c b)) q in
     and-both (partOf a c) (not (partOf c a)) (part-trans a b c p (q′ .0))

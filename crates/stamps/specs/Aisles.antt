@@ -19,3 +19,7 @@ sharesBelow a b (suc k) = sharesAisle a b k && sharesBelow a b k
 -- each aisle of the first route, of 0 to 63, is one of the second
 unfoldable pub partOf : ℕ → ℕ → Bool
 partOf a b = sharesBelow a b 64
+
+-- part of, and not equal
+abbrev pub properPart : ℕ → ℕ → Bool
+properPart a b = partOf a b && not (partOf b a)

@@ -24,6 +24,6 @@ pub impl Order for Tick as TickOrder {
 pub impl fmt::Display for Tick as TickDisplay {
     fn fmt<W: fmt::Write>(&self, f: &mut fmt::Formatter<W>) -> fmt::Result {
         let tick = self.0;
-        write!(f, "{tick}")
+        write!(f, "tick {tick}")
     }
 }

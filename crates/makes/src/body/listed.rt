@@ -18,7 +18,11 @@ impl Body {
     pub fn get(&self, i: usize) -> Option<usize>
         ensures { λ r. ⌜ r ≡ nth (bodyAtoms (now (self .entry))) i ⌝ }
     {
-        if i < self.len { Some(self.atoms[i]) } else { None }
+        if i < self.len {
+            Some(self.atoms[i])
+        } else {
+            None
+        }
     }
 
     // A body of these atoms; none where there are more than six.

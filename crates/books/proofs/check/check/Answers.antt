@@ -19,10 +19,10 @@ returns-in-Break-check-rule g c =
     let atoms : length (m .atoms) ≤ 1024 = omega arith in
     let rules : length (m .rules) ≤ 1024 = omega arith in
     let answer : c .from-residual .result ≡ unless (bookFault (g .Stamp·Order .isBefore) (g .Stamp·Order .isNotAfter) m) =
-      p .1 ∙ ap Err (p .2)
-      ∙ refuses-here faultAt (c .loop-rule .rule) _ _ (c .loop-rule .inv) (c .in-Break-check-rule .ensures tt) (c .loop-rule-test .taken)
-      ∙ ap (λ n. unless (firstBelow n faultAt)) (c .rule-count-rule-end .ensures)
-      ∙ ap unless (sym (within (length (m .atoms)) (length (m .rules)) (Some TooLarge) (firstBelow (length (m .rules)) faultAt) atoms rules)) in
+    p .1 ∙ ap Err (p .2)
+    ∙ refuses-here faultAt (c .loop-rule .rule) _ _ (c .loop-rule .inv) (c .in-Break-check-rule .ensures tt) (c .loop-rule-test .taken)
+    ∙ ap (λ n. unless (firstBelow n faultAt)) (c .rule-count-rule-end .ensures)
+    ∙ ap unless (sym (within (length (m .atoms)) (length (m .rules)) (Some TooLarge) (firstBelow (length (m .rules)) faultAt) atoms rules)) in
     record { answer = answer; judged = judged-at (g .Stamp·Order .isBefore) (g .Stamp·Order .isNotAfter) m (c .from-residual .result) answer }
 
 pub returns : need.returns
@@ -33,7 +33,7 @@ returns g c =
     let rules : length (m .rules) ≤ 1024 = omega arith in
     let done : length (m .rules) ≡ c .loop-rule .rule = omega arith in
     let answer : Ok tt ≡ unless (bookFault (g .Stamp·Order .isBefore) (g .Stamp·Order .isNotAfter) m) =
-      ap unless (sym (within (length (m .atoms)) (length (m .rules)) (Some TooLarge) (firstBelow (length (m .rules)) faultAt) atoms rules ∙ ap (λ n. firstBelow n faultAt) done ∙ c .loop-rule .inv)) in
+    ap unless (sym (within (length (m .atoms)) (length (m .rules)) (Some TooLarge) (firstBelow (length (m .rules)) faultAt) atoms rules ∙ ap (λ n. firstBelow n faultAt) done ∙ c .loop-rule .inv)) in
     record { answer = answer; judged = judged-at (g .Stamp·Order .isBefore) (g .Stamp·Order .isNotAfter) m (Ok tt) answer }
 
 pub loop-rule-again : need.loop-rule-again

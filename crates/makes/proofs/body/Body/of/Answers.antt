@@ -15,11 +15,12 @@ loop-i-again c =
     let atoms = c .args .atoms .now in
     let places = c .loop-i .places in
     let i = c .loop-i .i in
-    let room : i < length places = omega arith in
-    (simp length-set (c .loop-i .inv .0),
-        take-more-set places i (getD atoms i 0) room
-        ∙ ap (λ t. t ++ (getD atoms i 0 ∷ [])) (c .loop-i .inv .1)
-        ∙ sym (take-more atoms i 0 (c .loop-i-test .taken)))
+    let room : i < length places = omega arith in (
+      simp length-set (c .loop-i .inv .0),
+      take-more-set places i (getD atoms i 0) room
+          ∙ ap (λ t. t ++ (getD atoms i 0 ∷ [])) (c .loop-i .inv .1)
+          ∙ sym (take-more atoms i 0 (c .loop-i-test .taken)),
+    )
 
 pub returns : need.returns
 returns c =
