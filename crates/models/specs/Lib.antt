@@ -1,0 +1,6 @@
+pub mod Sets
+pub mod Orders
+pub mod Verdicts
+pub mod Stability
+pub mod Moves
+pub mod Examples

@@ -1,0 +1,2 @@
+// Stable models of a checked book.
+use stamps::order::Order;
