@@ -1,1 +1,5 @@
+pub mod Truth
+pub mod Members
+pub mod Counting
+pub mod Places
 pub mod Shown

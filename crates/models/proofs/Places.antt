@@ -1,0 +1,127 @@
+-- Atoms and rules of a book by their numbers, and how the order of stamps orders the atoms.
+use Prim.Native.Nat.{ℕ, zero, suc, _<_, _≤_, _+_}
+use native.Mathlib.Nat.{not-suc-le-zero, le-of-suc-le-suc}
+use native.Mathlib.Omega.{arith}
+use mathlib.Core.Bool.{Bool, true, false, not}
+use mathlib.Core.List.{List, [], _∷_}
+use mathlib.Core.Path.{_≡_, refl, sym, subst, ap}
+use lib.Dec.{T, ltb, ltb→lt, lt→ltb}
+use lib.ListN.{length}
+use Rattle.std.specs.Finite.{nth}
+use Rattle.std.specs.declared.option.Option.{Option}
+use Rattle.std.specs.declared.option.Option.the-variants.{Some, None}
+use Rattle.books.specs.Meaning.{Rule, Atom, Meaning, onSome, bindSome, ruleAt, stampOf, readingOf}
+use Rattle.books.specs.Judged.{bothPass, relates}
+use Rattle.models.specs.Sets.{Set, someBelow}
+use Rattle.models.specs.Orders.{Lawful}
+use Rattle.models.specs.Verdicts.{passes, inBook, isReading, isDerived, someRule}
+use Rattle.models.proofs.Truth.{false-out}
+use Rattle.models.proofs.Members.{below-in, below-out}
+use Rattle.models.proofs.Counting.{countBelow, count-less}
+
+abbrev there : {X : Type 0} → Option X → Bool
+there None = false
+there (Some x) = true
+
+there-below : {X : Type 0} (xs : List X) (i : ℕ) → T (there (nth xs i)) → i < length xs
+there-below [] i t = absurd t
+there-below (x ∷ xs) zero t = omega arith
+there-below (x ∷ xs) (suc i) t = let h : i < length xs = there-below xs i t in omega arith
+
+below-there : {X : Type 0} (xs : List X) (i : ℕ) → i < length xs → T (there (nth xs i))
+below-there [] i l = absurd (not-suc-le-zero l)
+below-there (x ∷ xs) zero l = tt
+below-there (x ∷ xs) (suc i) l = below-there xs i (le-of-suc-le-suc l)
+
+passes-there : {X Y : Type 0} (test : Y → Bool) (f : X → Y) (o : Option X) → T (passes test (onSome f o)) → T (there o)
+passes-there test f None t = t
+passes-there test f (Some x) t = tt
+
+bind-there : {X : Type 0} (o : Option (Option X)) (x : X) → bindSome (λ y. y) o ≡ Some x → T (there o)
+bind-there None x e = subst (λ o. T (there o)) (sym e) tt
+bind-there (Some o) x e = tt
+
+passes-out : {X : Type 0} (test : X → Bool) (o : Option X) → T (passes test o) → (x : X) × (o ≡ Some x) × T (test x)
+passes-out test None t = absurd t
+passes-out test (Some x) t = (x, refl, t)
+
+passes-in : {X : Type 0} (test : X → Bool) (o : Option X) (x : X) → o ≡ Some x → T (test x) → T (passes test o)
+passes-in test o x e t = subst (λ o. T (passes test o)) (sym e) t
+
+left-there : {S X : Type 0} (test : S → S → Bool) (f : X → S) (o : Option X) (p : Option S) → T (bothPass test (onSome f o) p) → T (there o)
+left-there test f None p t = t
+left-there test f (Some x) p t = tt
+
+both-reflexive : {S X : Type 0} (test : S → S → Bool) (f : X → S) → ((s : S) → T (test s s)) → (o : Option X) → T (there o) → T (bothPass test (onSome f o) (onSome f o))
+both-reflexive test f r None t = t
+both-reflexive test f r (Some x) t = r (f x)
+
+both-never : {S : Type 0} (test : S → S → Bool) → ((s : S) → test s s ≡ false) → (o : Option S) → T (bothPass test o o) → ⊥
+both-never test r None t = t
+both-never test r (Some s) t = false-out (test s s) (r s) t
+
+-- a law of three stamps is one of three atoms
+both-chains : {S : Type 0} (f g h : S → S → Bool) → ((a b c : S) → T (f a b) → T (g b c) → T (h a c)) → (x y z : Option S) → T (bothPass f x y) → T (bothPass g y z) → T (bothPass h x z)
+both-chains f g h law None y z p q = p
+both-chains f g h law (Some a) None z p q = absurd p
+both-chains f g h law (Some a) (Some b) None p q = q
+both-chains f g h law (Some a) (Some b) (Some c) p q = law a b c p q
+
+module _ {S : Type 0} (m : Meaning S) where
+  pub place : (a : ℕ) → T (inBook m a) → a < length (m .atoms)
+  place a t = ltb→lt a (length (m .atoms)) t
+
+  at-place : (a : ℕ) → T (there (nth (m .atoms) a)) → T (inBook m a)
+  at-place a t = lt→ltb a (length (m .atoms)) (there-below (m .atoms) a t)
+
+  pub reading-in-book : (a : ℕ) → T (isReading m a) → T (inBook m a)
+  reading-in-book a t = at-place a (passes-there (λ b. b) (λ x. x .reading) (nth (m .atoms) a) t)
+
+  pub derived-in-book : (a : ℕ) → T (isDerived m a) → T (inBook m a)
+  derived-in-book a t = at-place a (passes-there not (λ x. x .reading) (nth (m .atoms) a) t)
+
+  pub related-in-book : (test : S → S → Bool) (a b : ℕ) → T (relates test m a b) → T (inBook m a)
+  related-in-book test a b t = at-place a (left-there test (λ x. x .stamp) (nth (m .atoms) a) (stampOf m b) t)
+
+  -- some rule passes the test: this one
+  pub rule-out : (test : Rule → Bool) → T (someRule m test) → (k : ℕ) × (r : Rule) × (ruleAt m k ≡ Some r) × T (test r)
+  rule-out test t =
+      let found : (k : ℕ) × (k < length (m .rules)) × T (passes test (ruleAt m k)) = below-out (length (m .rules)) (λ k. passes test (ruleAt m k)) t in
+      let what : (r : Rule) × (ruleAt m (found .0) ≡ Some r) × T (test r) = passes-out test (ruleAt m (found .0)) (found .2) in
+      (found .0, what .0, what .1, what .2)
+
+  pub rule-in : (test : Rule → Bool) (k : ℕ) (r : Rule) → ruleAt m k ≡ Some r → T (test r) → T (someRule m test)
+  rule-in test k r e t =
+      below-in (length (m .rules)) (λ k. passes test (ruleAt m k)) k
+      (there-below (m .rules) k (bind-there (nth (m .rules) k) r e))
+      (passes-in test (ruleAt m k) r e t)
+
+-- the order of stamps, as an order of the book's atoms
+module _ {S : Type 0} {before notAfter : S → S → Bool} (laws : Lawful before notAfter) (m : Meaning S) where
+  pub reflexive : (a : ℕ) → T (inBook m a) → T (relates notAfter m a a)
+  reflexive a t = both-reflexive notAfter (λ (x : Atom S). x .stamp) (laws .reflexive) (nth (m .atoms) a) (below-there (m .atoms) a (place m a t))
+
+  pub irreflexive : (a : ℕ) → T (relates before m a a) → ⊥
+  irreflexive a = both-never before (laws .irreflexive) (stampOf m a)
+
+  pub transitive : (a b c : ℕ) → T (relates notAfter m a b) → T (relates notAfter m b c) → T (relates notAfter m a c)
+  transitive a b c = both-chains notAfter notAfter notAfter (laws .transitive) (stampOf m a) (stampOf m b) (stampOf m c)
+
+  pub strictLeft : (a b c : ℕ) → T (relates before m a b) → T (relates notAfter m b c) → T (relates before m a c)
+  strictLeft a b c = both-chains before notAfter before (laws .strictLeft) (stampOf m a) (stampOf m b) (stampOf m c)
+
+  pub strictRight : (a b c : ℕ) → T (relates notAfter m a b) → T (relates before m b c) → T (relates before m a c)
+  strictRight a b c = both-chains notAfter before before (laws .strictRight) (stampOf m a) (stampOf m b) (stampOf m c)
+
+  strictBoth : (a b c : ℕ) → T (relates before m a b) → T (relates before m b c) → T (relates before m a c)
+  strictBoth a b c =
+      both-chains before before before (λ x y z p q. laws .strictLeft x y z p (laws .weakens y z q)) (stampOf m a) (stampOf m b) (stampOf m c)
+
+  -- how many atoms of the book are before the atom
+  abbrev pub depth : ℕ → ℕ
+  depth a = countBelow (length (m .atoms)) (λ b. relates before m b a)
+
+  pub deeper : (a b : ℕ) → T (relates before m a b) → depth a < depth b
+  deeper a b t =
+      count-less (length (m .atoms)) (λ c. relates before m c a) (λ c. relates before m c b)
+      (λ c h. strictBoth c a b h t) a (place m a (related-in-book m before a b t)) t (irreflexive a)
