@@ -39,12 +39,13 @@ some-with P X [] p t = absurd t
 some-with P X (x ∷ xs) p t =
     ⊎-elim (λ h. (x, p .0, h)) (λ h. some-with P X xs (p .1) h) (or-out (X x) (some X xs) t)
 
-pub some-within : (X Y : Set) → ((a : ℕ) → T (X a) → T (Y a)) → (xs : List ℕ) → T (some X xs) → T (some Y xs)
-some-within X Y f [] t = t
-some-within X Y f (x ∷ xs) t =
+-- some atom of the list is in Y, given a fact of each and that some is in X
+pub some-moved : (P : ℕ → Type 0) (X Y : Set) → ((a : ℕ) → P a → T (X a) → T (Y a)) → (xs : List ℕ) → All P xs → T (some X xs) → T (some Y xs)
+some-moved P X Y f [] p t = t
+some-moved P X Y f (x ∷ xs) p t =
     ⊎-elim
-    (λ h. or-left (Y x) (some Y xs) (f x h))
-    (λ h. or-right (Y x) (some Y xs) (some-within X Y f xs h))
+    (λ h. or-left (Y x) (some Y xs) (f x (p .0) h))
+    (λ h. or-right (Y x) (some Y xs) (some-moved P X Y f xs (p .1) h))
     (or-out (X x) (some X xs) t)
 
 -- each of the list is in X, and none that is in X is in Y: none of the list is in Y
