@@ -4,4 +4,5 @@ pub mod Counting
 pub mod Places
 pub mod Reducts
 pub mod Uniqueness
+pub mod Judging
 pub mod Shown

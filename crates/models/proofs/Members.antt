@@ -33,11 +33,23 @@ one-differs P X Y (x ∷ xs) p t f =
     (λ n. (x, p .0, and-left (X x) (every X xs) t, n))
     (either (Y x))
 
+pub some-out : (X : Set) (xs : List ℕ) → T (some X xs) → (a : ℕ) × T (X a)
+some-out X [] t = absurd t
+some-out X (x ∷ xs) t = ⊎-elim (λ h. (x, h)) (λ h. some-out X xs h) (or-out (X x) (some X xs) t)
+
 -- some atom of the list is in the set, with the fact that each of the list has
 pub some-with : (P : ℕ → Type 0) (X : Set) → (xs : List ℕ) → All P xs → T (some X xs) → (a : ℕ) × P a × T (X a)
 some-with P X [] p t = absurd t
 some-with P X (x ∷ xs) p t =
     ⊎-elim (λ h. (x, p .0, h)) (λ h. some-with P X xs (p .1) h) (or-out (X x) (some X xs) t)
+
+pub some-within : (X Y : Set) → ((a : ℕ) → T (X a) → T (Y a)) → (xs : List ℕ) → T (some X xs) → T (some Y xs)
+some-within X Y f [] t = t
+some-within X Y f (x ∷ xs) t =
+    ⊎-elim
+    (λ h. or-left (Y x) (some Y xs) (f x h))
+    (λ h. or-right (Y x) (some Y xs) (some-within X Y f xs h))
+    (or-out (X x) (some X xs) t)
 
 -- some atom of the list is in Y, given a fact of each and that some is in X
 pub some-moved : (P : ℕ → Type 0) (X Y : Set) → ((a : ℕ) → P a → T (X a) → T (Y a)) → (xs : List ℕ) → All P xs → T (some X xs) → T (some Y xs)

@@ -2,10 +2,10 @@
 use Prim.Native.Nat.{ℕ, zero, suc, _<_, _≤_, _+_}
 use native.Mathlib.Nat.{not-suc-le-zero, le-of-suc-le-suc}
 use native.Mathlib.Omega.{arith}
-use mathlib.Core.Bool.{Bool, true, false, not}
+use mathlib.Core.Bool.{Bool, true, false, not, _&&_}
 use mathlib.Core.List.{List, [], _∷_}
 use mathlib.Core.Path.{_≡_, refl, sym, subst, ap}
-use lib.Dec.{T, ltb, ltb→lt, lt→ltb}
+use lib.Dec.{T, eqb, eqb→eq, eqb-refl, ltb, ltb→lt, lt→ltb}
 use lib.ListN.{length}
 use Rattle.std.specs.Finite.{nth}
 use Rattle.std.specs.declared.option.Option.{Option}
@@ -14,8 +14,8 @@ use Rattle.books.specs.Meaning.{Rule, Atom, Meaning, onSome, bindSome, ruleAt, 
 use Rattle.books.specs.Judged.{bothPass, relates}
 use Rattle.models.specs.Sets.{Set, someBelow}
 use Rattle.models.specs.Orders.{Lawful}
-use Rattle.models.specs.Verdicts.{passes, inBook, isReading, isDerived, someRule}
-use Rattle.models.proofs.Truth.{false-out}
+use Rattle.models.specs.Verdicts.{passes, inBook, isReading, isDerived, headsSome}
+use Rattle.models.proofs.Truth.{and-in, and-left, and-right, false-out}
 use Rattle.models.proofs.Members.{below-in, below-out}
 use Rattle.models.proofs.Counting.{countBelow, count-less}
 
@@ -67,6 +67,17 @@ both-chains f g h law (Some a) None z p q = absurd p
 both-chains f g h law (Some a) (Some b) None p q = q
 both-chains f g h law (Some a) (Some b) (Some c) p q = law a b c p q
 
+same-number : (a b : ℕ) → a ≡ b → T (eqb a b)
+same-number a b e = subst (λ (c : ℕ). T (eqb a c)) e (eqb-refl a)
+
+-- a rule of the book with that head, and a fact about it
+pub record Headed {S : Type 0} (m : Meaning S) (a : ℕ) (P : Rule → Type 0) : Type 0 where
+  pub number : ℕ
+  pub rule : Rule
+  pub is : ruleAt m number ≡ Some rule
+  pub heads : rule .head ≡ a
+  pub so : P rule
+
 module _ {S : Type 0} (m : Meaning S) where
   pub place : (a : ℕ) → T (inBook m a) → a < length (m .atoms)
   place a t = ltb→lt a (length (m .atoms)) t
@@ -83,18 +94,23 @@ module _ {S : Type 0} (m : Meaning S) where
   pub related-in-book : (test : S → S → Bool) (a b : ℕ) → T (relates test m a b) → T (inBook m a)
   related-in-book test a b t = at-place a (left-there test (λ x. x .stamp) (nth (m .atoms) a) (stampOf m b) t)
 
-  -- some rule passes the test: this one
-  pub rule-out : (test : Rule → Bool) → T (someRule m test) → (k : ℕ) × (r : Rule) × (ruleAt m k ≡ Some r) × T (test r)
-  rule-out test t =
-      let found : (k : ℕ) × (k < length (m .rules)) × T (passes test (ruleAt m k)) = below-out (length (m .rules)) (λ k. passes test (ruleAt m k)) t in
-      let what : (r : Rule) × (ruleAt m (found .0) ≡ Some r) × T (test r) = passes-out test (ruleAt m (found .0)) (found .2) in
-      (found .0, what .0, what .1, what .2)
+  -- the atom heads some rule that passes the test: this one
+  pub headed-out : (test : Rule → Bool) (a : ℕ) → T (headsSome m test a) → Headed m a (λ r. T (test r))
+  headed-out test a t =
+      let both : Rule → Bool = λ r. eqb (r .head) a && test r in
+      let f : (k : ℕ) × (k < length (m .rules)) × T (passes both (ruleAt m k)) = below-out (length (m .rules)) (λ k. passes both (ruleAt m k)) t in
+      let w : (r : Rule) × (ruleAt m (f .0) ≡ Some r) × T (both r) = passes-out both (ruleAt m (f .0)) (f .2) in
+      record { number = f .0; rule = w .0; is = w .1;
+        heads = eqb→eq (w .0 .head) a (and-left (eqb (w .0 .head) a) (test (w .0)) (w .2));
+        so = and-right (eqb (w .0 .head) a) (test (w .0)) (w .2) }
 
-  pub rule-in : (test : Rule → Bool) (k : ℕ) (r : Rule) → ruleAt m k ≡ Some r → T (test r) → T (someRule m test)
-  rule-in test k r e t =
-      below-in (length (m .rules)) (λ k. passes test (ruleAt m k)) k
-      (there-below (m .rules) k (bind-there (nth (m .rules) k) r e))
-      (passes-in test (ruleAt m k) r e t)
+  pub headed-in : (test : Rule → Bool) (a : ℕ) → Headed m a (λ r. T (test r)) → T (headsSome m test a)
+  headed-in test a h =
+      let both : Rule → Bool = λ r. eqb (r .head) a && test r in
+      below-in (length (m .rules)) (λ k. passes both (ruleAt m k)) (h .number)
+      (there-below (m .rules) (h .number) (bind-there (nth (m .rules) (h .number)) (h .rule) (h .is)))
+      (passes-in both (ruleAt m (h .number)) (h .rule) (h .is)
+          (and-in (eqb (h .rule .head) a) (test (h .rule)) (same-number (h .rule .head) a (h .heads)) (h .so)))
 
 -- the order of stamps, as an order of the book's atoms
 module _ {S : Type 0} {before notAfter : S → S → Bool} (laws : Lawful before notAfter) (m : Meaning S) where

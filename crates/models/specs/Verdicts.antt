@@ -31,9 +31,9 @@ isDerived m a = passes not (readingOf m a)
 abbrev pub holds : {S : Type 0} → Meaning S → Set → Set
 holds m held a = inBook m a && held a
 
--- some rule of the book passes the test; a vacant number does not
-abbrev pub someRule : {S : Type 0} → Meaning S → (Rule → Bool) → Bool
-someRule m test = someBelow (length (m .rules)) (λ k. passes test (ruleAt m k))
+-- the atom heads some rule that passes the test; a vacant number heads nothing
+abbrev pub headsSome : {S : Type 0} → Meaning S → (Rule → Bool) → Set
+headsSome m test a = someBelow (length (m .rules)) (λ k. passes (λ r. eqb (r .head) a && test r) (ruleAt m k))
 
 -- all its positives are held and none of its negatives is, and its head is in the book and no reading
 unfoldable pub ready : {S : Type 0} → Meaning S → Set → Rule → Bool
@@ -41,7 +41,7 @@ ready m held r = isDerived m (r .head) && every (holds m held) (r .positives) &&
 
 -- the atom is not held and heads some ready rule
 unfoldable pub due : {S : Type 0} → Meaning S → Set → Set
-due m held a = not (holds m held a) && someRule m (λ r. eqb (r .head) a && ready m held r)
+due m held a = not (holds m held a) && headsSome m (ready m held) a
 
 -- the atom is due or still open: it may be held next
 unfoldable pub pending : {S : Type 0} → Meaning S → Set → Set → Set
@@ -57,8 +57,7 @@ blocked notAfter m held stillOpen r = someBelow (length (m .atoms)) (blocks notA
 
 -- the atom is due, and at least one ready rule with that head has no blocker
 unfoldable pub safe : {S : Type 0} → (S → S → Bool) → Meaning S → Set → Set → Set
-safe notAfter m held stillOpen a =
-    due m held a && someRule m (λ r. eqb (r .head) a && ready m held r && not (blocked notAfter m held stillOpen r))
+safe notAfter m held stillOpen a = due m held a && headsSome m (λ r. ready m held r && not (blocked notAfter m held stillOpen r)) a
 
 -- some atom that is due or still open has a stamp not after the atom's own
 unfoldable pub awaited : {S : Type 0} → (S → S → Bool) → Meaning S → Set → Set → Set
