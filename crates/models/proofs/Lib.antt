@@ -5,4 +5,5 @@ pub mod Places
 pub mod Reducts
 pub mod Uniqueness
 pub mod Judging
+pub mod Lasting
 pub mod Shown
