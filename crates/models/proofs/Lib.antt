@@ -6,4 +6,5 @@ pub mod Reducts
 pub mod Uniqueness
 pub mod Judging
 pub mod Lasting
+pub mod Founding
 pub mod Shown
