@@ -76,7 +76,7 @@ module _ {S : Type 0} (notAfter : S → S → Bool) (m : Meaning S) (s : State) 
           (negatives-ruled (h .rule) (h .so)))
 
   -- a later state, in which only fed and safe atoms are newly held, is grounded too
-  grounded-more : (t : State) (fed more : Set) → ((a : ℕ) → T (ruledOutIn notAfter m s a) → T (ruledOutIn notAfter m t a)) → Within fed more →
+  pub grounded-more : (t : State) (fed more : Set) → ((a : ℕ) → T (ruledOutIn notAfter m s a) → T (ruledOutIn notAfter m t a)) → Within fed more →
       ((a : ℕ) → T (t .held a) → T (s .held a) ⊎ (T (more a) ⊎ T (safe notAfter m (s .held) (s .stillOpen) a))) →
       Grounded notAfter m s fed → Grounded notAfter m t more
   grounded-more t fed more last within fresh grounded X has obeys a h =
@@ -104,7 +104,7 @@ module _ {S : Type 0} (notAfter : S → S → Bool) (m : Meaning S) (s : State) 
   left-open : (x : ℕ) (a : ℕ) → T (s .stillOpen a) → T (s .stillOpen a && not (eqb x a)) ⊎ T (eqb x a)
   left-open x a o = ⊎-elim inr (λ f. inl (and-in (s .stillOpen a) (not (eqb x a)) o (not-in (eqb x a) f))) (either (eqb x a))
 
-  open-goes : (x : Move) → (a : ℕ) → T (s .stillOpen a) → T (after notAfter m s x .stillOpen a) ⊎ (T (feeds x a) ⊎ T (closes x a))
+  pub open-goes : (x : Move) → (a : ℕ) → T (s .stillOpen a) → T (after notAfter m s x .stillOpen a) ⊎ (T (feeds x a) ⊎ T (closes x a))
   open-goes (feed x) a o = ⊎-elim inl (λ e. inr (inl e)) (left-open x a o)
   open-goes (close x) a o = ⊎-elim inl (λ e. inr (inr e)) (left-open x a o)
   open-goes (take x) a o = inl o
@@ -123,7 +123,7 @@ module _ {S : Type 0} (notAfter : S → S → Bool) (m : Meaning S) (s : State) 
 abbrev pub union : Set → Set → Set
 union X Y a = X a || Y a
 
-or-assoc : (x y z : Bool) → ((x || y) || z) ≡ (x || (y || z))
+pub or-assoc : (x y z : Bool) → ((x || y) || z) ≡ (x || (y || z))
 or-assoc true y z = refl
 or-assoc false y z = refl
 
@@ -158,7 +158,7 @@ module _ {S : Type 0} {before notAfter : S → S → Bool} (laws : Lawful before
           (founded-move s fed x (and-left (may notAfter m s x) (mayAll notAfter m (after notAfter m s x) xs) t) f))
 
   -- the start is founded, with nothing fed
-  founded-start : Founded notAfter m (start m) none
+  pub founded-start : Founded notAfter m (start m) none
   founded-start = record { opens = λ a o. o; readings = λ a h. absurd h; fedHeld = λ a h. absurd h; grounded = λ X has obeys a h. absurd h }
 
   -- every state of a run is founded on what the run fed

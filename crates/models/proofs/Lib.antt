@@ -7,4 +7,6 @@ pub mod Uniqueness
 pub mod Judging
 pub mod Lasting
 pub mod Founding
+pub mod Progress
+pub mod Settling
 pub mod Shown
