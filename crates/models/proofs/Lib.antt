@@ -9,4 +9,7 @@ pub mod Lasting
 pub mod Founding
 pub mod Progress
 pub mod Settling
+pub mod Sequences
+pub mod Theorems
+pub mod Ticks
 pub mod Shown

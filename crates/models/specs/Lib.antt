@@ -3,4 +3,6 @@ pub mod Orders
 pub mod Verdicts
 pub mod Stability
 pub mod Moves
+pub mod Theorems
 pub mod Examples
+pub mod Shortcuts
