@@ -3,4 +3,4 @@ use Rattle.models.proofs.Theorems.{each-has-one-model}
 use Rattle.models.proofs.each_has_one_model.Needs as need
 
 pub returns : need.returns
-returns g c = let h = g .O·Order·met in each-has-one-model (search needs)
+returns g c = each-has-one-model (search needs)
