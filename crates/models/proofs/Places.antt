@@ -7,10 +7,9 @@ use mathlib.Core.List.{List, [], _∷_}
 use mathlib.Core.Path.{_≡_, refl, sym, subst, ap}
 use lib.Dec.{T, eqb, eqb→eq, eqb-refl, ltb, ltb→lt, lt→ltb}
 use lib.ListN.{length}
-use Rattle.std.specs.Finite.{nth}
 use Rattle.std.specs.declared.option.Option.{Option}
 use Rattle.std.specs.declared.option.Option.the-variants.{Some, None}
-use Rattle.books.specs.Meaning.{Rule, Atom, Meaning, onSome, bindSome, ruleAt, stampOf, readingOf}
+use Rattle.books.specs.Meaning.{Rule, Atom, Meaning, ruleAt, stampOf, readingOf}
 use Rattle.books.specs.Judged.{bothPass, relates}
 use Rattle.models.specs.Sets.{Set, someBelow}
 use Rattle.models.specs.Orders.{Lawful}
@@ -19,27 +18,30 @@ use Rattle.models.proofs.Truth.{and-in, and-left, and-right, false-out}
 use Rattle.models.proofs.Members.{below-in, below-out}
 use Rattle.models.proofs.Counting.{countBelow, count-less}
 
-abbrev there : {X : Type 0} → Option X → Bool
-there None = false
-there (Some x) = true
+-- a book of these atoms and rules
+abbrev pub book : {S : Type 0} → List (Atom S) → List (Option Rule) → Meaning S
+book xs rs = record { atoms = xs; rules = rs }
 
-there-below : {X : Type 0} (xs : List X) (i : ℕ) → T (there (nth xs i)) → i < length xs
-there-below [] i t = absurd t
-there-below (x ∷ xs) zero t = omega arith
-there-below (x ∷ xs) (suc i) t = let h : i < length xs = there-below xs i t in omega arith
+reading-there : {S : Type 0} (test : Bool → Bool) (rs : List (Option Rule)) (xs : List (Atom S)) (i : ℕ) → T (passes test (readingOf (book xs rs) i)) → i < length xs
+reading-there test rs [] i t = absurd t
+reading-there test rs (x ∷ xs) zero t = omega arith
+reading-there test rs (x ∷ xs) (suc i) t = let h : i < length xs = reading-there test rs xs i t in omega arith
 
-below-there : {X : Type 0} (xs : List X) (i : ℕ) → i < length xs → T (there (nth xs i))
-below-there [] i l = absurd (not-suc-le-zero l)
-below-there (x ∷ xs) zero l = tt
-below-there (x ∷ xs) (suc i) l = below-there xs i (le-of-suc-le-suc l)
+stamp-there : {S : Type 0} (test : S → S → Bool) (o : Option S) (rs : List (Option Rule)) (xs : List (Atom S)) (i : ℕ) → T (bothPass test (stampOf (book xs rs) i) o) → i < length xs
+stamp-there test o rs [] i t = absurd t
+stamp-there test o rs (x ∷ xs) zero t = omega arith
+stamp-there test o rs (x ∷ xs) (suc i) t = let h : i < length xs = stamp-there test o rs xs i t in omega arith
 
-passes-there : {X Y : Type 0} (test : Y → Bool) (f : X → Y) (o : Option X) → T (passes test (onSome f o)) → T (there o)
-passes-there test f None t = t
-passes-there test f (Some x) t = tt
+rule-there : {S : Type 0} (xs : List (Atom S)) (rs : List (Option Rule)) (k : ℕ) (r : Rule) → ruleAt (book xs rs) k ≡ Some r → k < length rs
+rule-there xs [] k r e = let z : _≡_ {A = ℕ} 0 1 = cc in absurd (omega arith)
+rule-there xs (x ∷ rs) zero r e = omega arith
+rule-there xs (x ∷ rs) (suc k) r e = let h : k < length rs = rule-there xs rs k r e in omega arith
 
-bind-there : {X : Type 0} (o : Option (Option X)) (x : X) → bindSome (λ y. y) o ≡ Some x → T (there o)
-bind-there None x e = subst (λ o. T (there o)) (sym e) tt
-bind-there (Some o) x e = tt
+both-reflexive : {S : Type 0} (test : S → S → Bool) → ((s : S) → T (test s s)) → (rs : List (Option Rule)) (xs : List (Atom S)) (i : ℕ) → i < length xs →
+    T (bothPass test (stampOf (book xs rs) i) (stampOf (book xs rs) i))
+both-reflexive test law rs [] i l = absurd (not-suc-le-zero l)
+both-reflexive test law rs (x ∷ xs) zero l = law (x .stamp)
+both-reflexive test law rs (x ∷ xs) (suc i) l = both-reflexive test law rs xs i (le-of-suc-le-suc l)
 
 passes-out : {X : Type 0} (test : X → Bool) (o : Option X) → T (passes test o) → (x : X) × (o ≡ Some x) × T (test x)
 passes-out test None t = absurd t
@@ -47,14 +49,6 @@ passes-out test (Some x) t = (x, refl, t)
 
 passes-in : {X : Type 0} (test : X → Bool) (o : Option X) (x : X) → o ≡ Some x → T (test x) → T (passes test o)
 passes-in test o x e t = subst (λ o. T (passes test o)) (sym e) t
-
-left-there : {S X : Type 0} (test : S → S → Bool) (f : X → S) (o : Option X) (p : Option S) → T (bothPass test (onSome f o) p) → T (there o)
-left-there test f None p t = t
-left-there test f (Some x) p t = tt
-
-both-reflexive : {S X : Type 0} (test : S → S → Bool) (f : X → S) → ((s : S) → T (test s s)) → (o : Option X) → T (there o) → T (bothPass test (onSome f o) (onSome f o))
-both-reflexive test f r None t = t
-both-reflexive test f r (Some x) t = r (f x)
 
 both-never : {S : Type 0} (test : S → S → Bool) → ((s : S) → test s s ≡ false) → (o : Option S) → T (bothPass test o o) → ⊥
 both-never test r None t = t
@@ -82,17 +76,17 @@ module _ {S : Type 0} (m : Meaning S) where
   pub place : (a : ℕ) → T (inBook m a) → a < length (m .atoms)
   place a t = ltb→lt a (length (m .atoms)) t
 
-  at-place : (a : ℕ) → T (there (nth (m .atoms) a)) → T (inBook m a)
-  at-place a t = lt→ltb a (length (m .atoms)) (there-below (m .atoms) a t)
+  at-place : (a : ℕ) → a < length (m .atoms) → T (inBook m a)
+  at-place a l = lt→ltb a (length (m .atoms)) l
 
   pub reading-in-book : (a : ℕ) → T (isReading m a) → T (inBook m a)
-  reading-in-book a t = at-place a (passes-there (λ b. b) (λ x. x .reading) (nth (m .atoms) a) t)
+  reading-in-book a t = at-place a (reading-there (λ b. b) (m .rules) (m .atoms) a t)
 
   pub derived-in-book : (a : ℕ) → T (isDerived m a) → T (inBook m a)
-  derived-in-book a t = at-place a (passes-there not (λ x. x .reading) (nth (m .atoms) a) t)
+  derived-in-book a t = at-place a (reading-there not (m .rules) (m .atoms) a t)
 
   pub related-in-book : (test : S → S → Bool) (a b : ℕ) → T (relates test m a b) → T (inBook m a)
-  related-in-book test a b t = at-place a (left-there test (λ x. x .stamp) (nth (m .atoms) a) (stampOf m b) t)
+  related-in-book test a b t = at-place a (stamp-there test (stampOf m b) (m .rules) (m .atoms) a t)
 
   -- the atom heads some rule that passes the test: this one
   pub headed-out : (test : Rule → Bool) (a : ℕ) → T (headsSome m test a) → Headed m a (λ r. T (test r))
@@ -108,14 +102,14 @@ module _ {S : Type 0} (m : Meaning S) where
   headed-in test a h =
       let both : Rule → Bool = λ r. eqb (r .head) a && test r in
       below-in (length (m .rules)) (λ k. passes both (ruleAt m k)) (h .number)
-      (there-below (m .rules) (h .number) (bind-there (nth (m .rules) (h .number)) (h .rule) (h .is)))
+      (rule-there (m .atoms) (m .rules) (h .number) (h .rule) (h .is))
       (passes-in both (ruleAt m (h .number)) (h .rule) (h .is)
           (and-in (eqb (h .rule .head) a) (test (h .rule)) (same-number (h .rule .head) a (h .heads)) (h .so)))
 
 -- the order of stamps, as an order of the book's atoms
 module _ {S : Type 0} {before notAfter : S → S → Bool} (laws : Lawful before notAfter) (m : Meaning S) where
   pub reflexive : (a : ℕ) → T (inBook m a) → T (relates notAfter m a a)
-  reflexive a t = both-reflexive notAfter (λ (x : Atom S). x .stamp) (laws .reflexive) (nth (m .atoms) a) (below-there (m .atoms) a (place m a t))
+  reflexive a t = both-reflexive notAfter (laws .reflexive) (m .rules) (m .atoms) a (place m a t)
 
   pub irreflexive : (a : ℕ) → T (relates before m a a) → ⊥
   irreflexive a = both-never before (laws .irreflexive) (stampOf m a)

@@ -14,7 +14,7 @@ use Rattle.models.specs.Sets.{Set, Same}
 use Rattle.models.specs.Verdicts.{isReading, ready, due, pending, blocks, blocked, safe, awaited, ruledOut}
 use Rattle.models.specs.Stability.{ReadingsOf, Stable}
 use Rattle.models.specs.Moves.{Move, take, Outcome, modelOf}
-use Rattle.models.specs.Examples.{among, listed, from, circle, five, routes, ModelIs, ExamplesHold}
+use Rattle.models.specs.Examples.{among, listed, from, levelPair, fiveAtoms, threeRoutes, ModelIs, ExamplesHold}
 use Rattle.models.specs.Shortcuts.{strictly, byHead, notReading, notLevel, notAlone, notEarly, TakesTooMuch, StandsStill, WaitsForNothing, ShortcutsAreWrong}
 use Rattle.models.proofs.Truth.{or-out}
 use Rattle.models.proofs.Ticks.{ticks, eachRule, fits, sound-by}
@@ -46,9 +46,9 @@ model-is m readings atoms sound only e = record {
 pub examples-hold : ExamplesHold
 unfolding ready due pending blocks blocked safe awaited ruledOut partOf sharesBelow
 examples-hold = record {
-    circleHoldsNothing = λ R M readings stable. ap (listed 2) (is-computed circle (accepted circle tt tt tt) R M readings stable);
-    fiveWithOne = model-is five (0 ∷ []) (0 ∷ 3 ∷ []) (accepted five tt tt tt) (one-reading five 0 tt) refl;
-    fiveWithBoth = model-is five (0 ∷ 1 ∷ []) (0 ∷ 1 ∷ 2 ∷ 4 ∷ []) (accepted five tt tt tt) (two-readings five 0 1 tt tt) refl;
+    levelPairHoldsNothing = λ R M readings stable. ap (listed 2) (is-computed levelPair (accepted levelPair tt tt tt) R M readings stable);
+    fiveWithOne = model-is fiveAtoms (0 ∷ []) (0 ∷ 3 ∷ []) (accepted fiveAtoms tt tt tt) (one-reading fiveAtoms 0 tt) refl;
+    fiveWithBoth = model-is fiveAtoms (0 ∷ 1 ∷ []) (0 ∷ 1 ∷ 2 ∷ 4 ∷ []) (accepted fiveAtoms tt tt tt) (two-readings fiveAtoms 0 1 tt tt) refl;
     dueAtFirst = refl;
     blockersOfThree = refl;
     blockersOfFour = refl;

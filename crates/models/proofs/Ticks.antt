@@ -6,14 +6,15 @@ use mathlib.Core.List.{List, [], _∷_}
 use mathlib.Core.Path.{_≡_, refl, sym, subst}
 use lib.Dec.{T, leb, ltb, leb→le, le→leb, ltb→lt, lt→ltb}
 use lib.ListN.{length}
-use Rattle.std.specs.Finite.{nth, All}
+use Rattle.std.specs.Finite.{All}
 use Rattle.std.specs.declared.option.Option.{Option}
 use Rattle.std.specs.declared.option.Option.the-variants.{Some, None}
-use Rattle.books.specs.Meaning.{Rule, Meaning, bindSome, ruleAt, readingOf}
+use Rattle.books.specs.Meaning.{Rule, Atom, Meaning, ruleAt, readingOf}
 use Rattle.books.specs.Judged.{Sound, SoundRule, relates}
 use Rattle.models.specs.Orders.{Lawful}
 use Rattle.models.specs.Sets.{Set, every}
 use Rattle.models.specs.Verdicts.{passes, isDerived}
+use Rattle.models.proofs.Places.{book}
 use Rattle.models.proofs.Truth.{and-left, and-right, false-in}
 
 pub ticks : Lawful ltb leb
@@ -40,13 +41,13 @@ eachRule test [] = true
 eachRule test (None ∷ rs) = eachRule test rs
 eachRule test (Some r ∷ rs) = test r && eachRule test rs
 
-at-number : (test : Rule → Bool) (rs : List (Option Rule)) → T (eachRule test rs) → (k : ℕ) (r : Rule) → bindSome (λ x. x) (nth rs k) ≡ Some r → T (test r)
-at-number test [] t k r e = let z : _≡_ {A = ℕ} 0 1 = cc in absurd (omega arith)
-at-number test (None ∷ rs) t zero r e = let z : _≡_ {A = ℕ} 0 1 = cc in absurd (omega arith)
-at-number test (Some x ∷ rs) t zero r e =
+at-number : {S : Type 0} (xs : List (Atom S)) (test : Rule → Bool) (rs : List (Option Rule)) → T (eachRule test rs) → (k : ℕ) (r : Rule) → ruleAt (book xs rs) k ≡ Some r → T (test r)
+at-number xs test [] t k r e = let z : _≡_ {A = ℕ} 0 1 = cc in absurd (omega arith)
+at-number xs test (None ∷ rs) t zero r e = let z : _≡_ {A = ℕ} 0 1 = cc in absurd (omega arith)
+at-number xs test (Some x ∷ rs) t zero r e =
     let same : x ≡ r = cc in subst (λ (y : Rule). T (test y)) same (and-left (test x) (eachRule test rs) t)
-at-number test (None ∷ rs) t (suc k) r e = at-number test rs t k r e
-at-number test (Some x ∷ rs) t (suc k) r e = at-number test rs (and-right (test x) (eachRule test rs) t) k r e
+at-number xs test (None ∷ rs) t (suc k) r e = at-number xs test rs t k r e
+at-number xs test (Some x ∷ rs) t (suc k) r e = at-number xs test rs (and-right (test x) (eachRule test rs) t) k r e
 
 -- what the check accepts, as one test that computes
 module _ {S : Type 0} (before notAfter : S → S → Bool) (m : Meaning S) where
@@ -74,4 +75,4 @@ module _ {S : Type 0} (before notAfter : S → S → Bool) (m : Meaning S) where
         negatives = every-all (λ a. relates before m a (r .head)) (r .negatives) (and-right ps ns order) }
 
   pub sound-by : length (m .atoms) ≤ 1024 → length (m .rules) ≤ 1024 → T (eachRule fits (m .rules)) → Sound before notAfter m
-  sound-by a r t = record { fewAtoms = a; fewRules = r; rules = λ k x e. fits-out x (at-number fits (m .rules) t k x e) }
+  sound-by a r t = record { fewAtoms = a; fewRules = r; rules = λ k x e. fits-out x (at-number (m .atoms) fits (m .rules) t k x e) }
