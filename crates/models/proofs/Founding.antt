@@ -15,7 +15,7 @@ use Rattle.models.specs.Orders.{Lawful}
 use Rattle.models.specs.Verdicts.{inBook, isReading, isDerived, holds, ready, due, pending, blocked, safe, ruledOut}
 use Rattle.models.specs.Stability.{ReadingsOf, Closed, Stable}
 use Rattle.models.specs.Moves.{State, Move, feed, close, take, sweep, start, may, after, afterAll, mayAll, reached, sweeps, feeds, closes, fedBy, closedBy, decided, NothingDue, ruledOutIn}
-use Rattle.models.proofs.Truth.{and-in, and-left, and-right, or-left, or-right, or-out, not-in, either, false-out, stands}
+use Rattle.models.proofs.Truth.{and-in, and-left, and-right, or-left, or-right, or-out, not-in, either, or-assoc}
 use Rattle.models.proofs.Members.{every-within, none-of, some-within}
 use Rattle.models.proofs.Places.{Headed, reading-in-book, derived-in-book}
 use Rattle.models.proofs.Reducts.{closed-in, closed-out}
@@ -122,10 +122,6 @@ module _ {S : Type 0} (notAfter : S → S → Bool) (m : Meaning S) (s : State) 
 -- one set or the other
 abbrev pub union : Set → Set → Set
 union X Y a = X a || Y a
-
-pub or-assoc : (x y z : Bool) → ((x || y) || z) ≡ (x || (y || z))
-or-assoc true y z = refl
-or-assoc false y z = refl
 
 union-assoc : (X Y Z : Set) → union (union X Y) Z ≡ union X (union Y Z)
 union-assoc X Y Z = fun-ext (λ a. or-assoc (X a) (Y a) (Z a))

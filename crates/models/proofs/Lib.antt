@@ -10,6 +10,7 @@ pub mod Founding
 pub mod Progress
 pub mod Settling
 pub mod Sequences
+pub mod Keeping
 pub mod Theorems
 pub mod Ticks
 pub mod Shown

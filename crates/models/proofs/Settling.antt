@@ -14,14 +14,14 @@ use Rattle.models.specs.Orders.{Lawful}
 use Rattle.models.specs.Verdicts.{inBook, isReading, holds, ready, due}
 use Rattle.models.specs.Stability.{ReadingsOf, Closed, Stable}
 use Rattle.models.specs.Moves.{State, Move, start, may, after, afterAll, mayAll, reached, sweeps, feeds, closes, fedBy, closedBy, Outcome, decided, NothingOpen, NothingDue, ruledOutIn, modelOf}
-use Rattle.models.proofs.Truth.{and-in, and-left, and-right, or-left, or-right, or-out, false-in, false-out, stands}
+use Rattle.models.proofs.Truth.{and-in, and-left, and-right, or-left, or-right, or-out, false-in, false-out, stands, or-assoc}
 use Rattle.models.proofs.Members.{every-within, none-of, some-within}
 use Rattle.models.proofs.Places.{reading-in-book, derived-in-book}
 use Rattle.models.proofs.Reducts.{closed-in, closed-out}
 use Rattle.models.proofs.Uniqueness.{head-derived, unique}
 use Rattle.models.proofs.Judging.{holds-in, holds-held, ready-in, due-in, ruled-unheld}
 use Rattle.models.proofs.Lasting.{Grows, lasts, lasts-all, kept-all, grows-decided}
-use Rattle.models.proofs.Founding.{Obeys, Grounded, Founded, Covered, union, or-assoc, grounded-more, open-goes, founded-all, founded-start, founded-run}
+use Rattle.models.proofs.Founding.{Obeys, Grounded, Founded, Covered, union, grounded-more, open-goes, founded-all, founded-start, founded-run}
 use Rattle.models.proofs.Progress.{may-sweep, sweeping-ends}
 
 module _ {S : Type 0} {before notAfter : S → S → Bool} (laws : Lawful before notAfter) {m : Meaning S} (sound : Sound before notAfter m) where

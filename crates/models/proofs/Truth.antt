@@ -58,3 +58,7 @@ same true true f g = refl
 same true false f g = absurd (f tt)
 same false true f g = absurd (g tt)
 same false false f g = refl
+
+pub or-assoc : (x y z : Bool) → ((x || y) || z) ≡ (x || (y || z))
+or-assoc true y z = refl
+or-assoc false y z = refl

@@ -43,7 +43,7 @@ ready m held r = isDerived m (r .head) && every (holds m held) (r .positives) &&
 unfoldable pub due : {S : Type 0} → Meaning S → Set → Set
 due m held a = not (holds m held a) && headsSome m (ready m held) a
 
--- the atom is due or still open: it may be held next
+-- the atom is due or still open, so that it may yet be held; only readings are ever open
 unfoldable pub pending : {S : Type 0} → Meaning S → Set → Set → Set
 pending m held stillOpen a = due m held a || stillOpen a
 
