@@ -2,9 +2,9 @@
 use Prim.Native.Nat.{ℕ, zero, suc, _<_, _≤_, _+_}
 use native.Mathlib.Nat.{not-suc-le-zero}
 use native.Mathlib.Omega.{arith}
-use mathlib.Core.Bool.{Bool, true, false, cond}
-use mathlib.Core.Logic.{_⊎_, inl, inr, ⊎-elim}
-use mathlib.Core.Path.{_≡_, refl, sym, subst}
+use mathlib.Core.Bool.{Bool, true, false}
+use mathlib.Core.Logic.{⊎-elim}
+use mathlib.Core.Path.{_≡_, refl, subst}
 use lib.Dec.{T}
 use Rattle.std.proofs.shelf.Tests.{cases-eq}
 use Rattle.models.specs.Sets.{Set, Within}
@@ -47,12 +47,12 @@ count-less zero X Y f a l y x = absurd (not-suc-le-zero l)
 count-less (suc n) X Y f a l y x =
     ⊎-elim
     (λ e. let h : one (X n) < one (Y n) = subst (λ (b : ℕ). one (X b) < one (Y b)) e (one-less (X a) (Y a) x y) in
-        let r : countBelow n X ≤ countBelow n Y = count-within n X Y f in
-        omega arith)
+    let r : countBelow n X ≤ countBelow n Y = count-within n X Y f in
+    omega arith)
     (λ g. let g′ : a ≡ n → ⊥ = g in
-        let h : one (X n) ≤ one (Y n) = one-within (X n) (Y n) (f n) in
-        let r : countBelow n X < countBelow n Y = count-less n X Y f a (omega arith) y x in
-        omega arith)
+    let h : one (X n) ≤ one (Y n) = one-within (X n) (Y n) (f n) in
+    let r : countBelow n X < countBelow n Y = count-less n X Y f a (omega arith) y x in
+    omega arith)
     (cases-eq a n)
 
 pub count-top : (n : ℕ) (X : Set) → countBelow n X ≤ n

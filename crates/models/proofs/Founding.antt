@@ -4,24 +4,21 @@ use Prim.Native.Nat.{ℕ}
 use mathlib.Core.Bool.{Bool, true, false, not, _&&_, _||_}
 use mathlib.Core.List.{List, [], _∷_}
 use mathlib.Core.Logic.{_⊎_, inl, inr, ⊎-elim}
-use mathlib.Core.Path.{_≡_, refl, sym, subst, fun-ext}
+use mathlib.Core.Path.{_≡_, refl, subst, fun-ext}
 use lib.Dec.{T, eqb, eqb→eq}
-use Rattle.std.specs.declared.option.Option.{Option}
-use Rattle.std.specs.declared.option.Option.the-variants.{Some, None}
+use Rattle.std.specs.declared.option.Option.the-variants.{Some}
 use Rattle.books.specs.Meaning.{Rule, Meaning, ruleAt}
-use Rattle.books.specs.Judged.{Sound, SoundRule, relates}
+use Rattle.books.specs.Judged.{Sound, relates}
 use Rattle.models.specs.Sets.{Set, Within, every, some, none}
 use Rattle.models.specs.Orders.{Lawful}
-use Rattle.models.specs.Verdicts.{inBook, isReading, isDerived, holds, ready, due, pending, blocked, safe, ruledOut}
-use Rattle.models.specs.Stability.{ReadingsOf, Closed, Stable}
-use Rattle.models.specs.Moves.{State, Move, feed, close, take, sweep, start, may, after, afterAll, mayAll, reached, sweeps, feeds, closes, fedBy, closedBy, decided, NothingDue, ruledOutIn}
+use Rattle.models.specs.Verdicts.{isReading, holds, pending, safe}
+use Rattle.models.specs.Stability.{ReadingsOf}
+use Rattle.models.specs.Moves.{State, Move, feed, close, take, sweep, start, may, after, afterAll, mayAll, reached, feeds, closes, fedBy, ruledOutIn}
 use Rattle.models.proofs.Truth.{and-in, and-left, and-right, or-left, or-right, or-out, not-in, either, or-assoc}
-use Rattle.models.proofs.Members.{every-within, none-of, some-within}
-use Rattle.models.proofs.Places.{Headed, reading-in-book, derived-in-book}
-use Rattle.models.proofs.Reducts.{closed-in, closed-out}
-use Rattle.models.proofs.Uniqueness.{head-derived}
-use Rattle.models.proofs.Judging.{Ready, holds-in, holds-held, ready-out, ready-in, due-in, safe-rule, unblocked, unblocked-ready, unblocked-free, blocked-in, ruled-in, ruled-unheld}
-use Rattle.models.proofs.Lasting.{Grows, lasts, grows, grows-decided}
+use Rattle.models.proofs.Members.{every-within}
+use Rattle.models.proofs.Places.{Headed}
+use Rattle.models.proofs.Judging.{Ready, holds-held, ready-out, safe-rule, unblocked, unblocked-ready, unblocked-free, blocked-in, ruled-in}
+use Rattle.models.proofs.Lasting.{Grows, lasts, grows}
 
 module _ {S : Type 0} (notAfter : S → S → Bool) (m : Meaning S) where
   -- X has the head of each rule whose positives it has and whose negatives are all ruled out
@@ -51,11 +48,11 @@ each-ruled notAfter m s [] f g = tt
 each-ruled notAfter m s (n ∷ ns) f g =
     and-in (ruledOutIn notAfter m s n) (every (ruledOutIn notAfter m s) ns)
     (ruled-in m (s .held) (s .stillOpen) notAfter n
-        (λ h. f (or-left (holds m (s .held) n) (some (holds m (s .held)) ns) h))
-        (λ b p r. g b p (or-left (relates notAfter m b n) (some (relates notAfter m b) ns) r)))
+    (λ h. f (or-left (holds m (s .held) n) (some (holds m (s .held)) ns) h))
+    (λ b p r. g b p (or-left (relates notAfter m b n) (some (relates notAfter m b) ns) r)))
     (each-ruled notAfter m s ns
-        (λ h. f (or-right (holds m (s .held) n) (some (holds m (s .held)) ns) h))
-        (λ b p r. g b p (or-right (relates notAfter m b n) (some (relates notAfter m b) ns) r)))
+    (λ h. f (or-right (holds m (s .held) n) (some (holds m (s .held)) ns) h))
+    (λ b p r. g b p (or-right (relates notAfter m b n) (some (relates notAfter m b) ns) r)))
 
 module _ {S : Type 0} (notAfter : S → S → Bool) (m : Meaning S) (s : State) where
   -- the negatives of a ready rule without a blocker are ruled out
@@ -72,8 +69,8 @@ module _ {S : Type 0} (notAfter : S → S → Bool) (m : Meaning S) (s : State) 
       let full : Ready m (s .held) (h .rule) = ready-out m (s .held) (h .rule) (unblocked-ready m (s .held) (s .stillOpen) notAfter (h .rule) (h .so)) in
       subst (λ (b : ℕ). T (X b)) (h .heads)
       (obeys (h .number) (h .rule) (h .is)
-          (every-within (holds m (s .held)) X (λ b k. has b (holds-held m (s .held) b k)) (h .rule .positives) (full .positives))
-          (negatives-ruled (h .rule) (h .so)))
+      (every-within (holds m (s .held)) X (λ b k. has b (holds-held m (s .held) b k)) (h .rule .positives) (full .positives))
+      (negatives-ruled (h .rule) (h .so)))
 
   -- a later state, in which only fed and safe atoms are newly held, is grounded too
   pub grounded-more : (t : State) (fed more : Set) → ((a : ℕ) → T (ruledOutIn notAfter m s a) → T (ruledOutIn notAfter m t a)) → Within fed more →
@@ -84,6 +81,7 @@ module _ {S : Type 0} (notAfter : S → S → Bool) (m : Meaning S) (s : State) 
     where
       obeyed : Obeys notAfter m s X
       obeyed k r e ps ns = obeys k r e ps (every-within (ruledOutIn notAfter m s) (ruledOutIn notAfter m t) last (r .negatives) ns)
+
       old : Within (s .held) X
       old = grounded X (λ b f. has b (within b f)) obeyed
 
@@ -129,14 +127,15 @@ union-assoc X Y Z = fun-ext (λ a. or-assoc (X a) (Y a) (Z a))
 module _ {S : Type 0} {before notAfter : S → S → Bool} (laws : Lawful before notAfter) {m : Meaning S} (sound : Sound before notAfter m) where
   founded-move : (s : State) (fed : Set) (x : Move) → T (may notAfter m s x) → Founded notAfter m s fed → Founded notAfter m (after notAfter m s x) (union fed (feeds x))
   founded-move s fed x t f = record {
-      opens = λ a o. f .opens a (step .fewer a o);
-      readings = λ a h. ⊎-elim (f .readings a) (λ e. f .opens a (fed-open notAfter m s x t a e)) (or-out (fed a) (feeds x a) h);
-      fedHeld = λ a h. ⊎-elim (λ e. step .kept a (f .fedHeld a e)) (fed-held notAfter m s x a) (or-out (fed a) (feeds x a) h);
-      grounded = grounded-more notAfter m s (after notAfter m s x) fed (union fed (feeds x))
-          (lasts laws sound s (after notAfter m s x) step)
-          (λ a h. or-left (fed a) (feeds x a) h)
-          (λ a h. ⊎-elim inl (λ n. inr (⊎-elim (λ e. inl (or-right (fed a) (feeds x a) e)) inr n)) (held-from notAfter m s x t a h))
-          (f .grounded) }
+    opens = λ a o. f .opens a (step .fewer a o);
+    readings = λ a h. ⊎-elim (f .readings a) (λ e. f .opens a (fed-open notAfter m s x t a e)) (or-out (fed a) (feeds x a) h);
+    fedHeld = λ a h. ⊎-elim (λ e. step .kept a (f .fedHeld a e)) (fed-held notAfter m s x a) (or-out (fed a) (feeds x a) h);
+    grounded = grounded-more notAfter m s (after notAfter m s x) fed (union fed (feeds x))
+        (lasts laws sound s (after notAfter m s x) step)
+        (λ a h. or-left (fed a) (feeds x a) h)
+        (λ a h. ⊎-elim inl (λ n. inr (⊎-elim (λ e. inl (or-right (fed a) (feeds x a) e)) inr n)) (held-from notAfter m s x t a h))
+        (f .grounded);
+  }
     where
       step : Grows m s (after notAfter m s x)
       step = grows notAfter m s x t
@@ -150,8 +149,8 @@ module _ {S : Type 0} {before notAfter : S → S → Bool} (laws : Lawful before
   founded-all s fed (x ∷ xs) t f =
       subst (Founded notAfter m (afterAll notAfter m (after notAfter m s x) xs)) (union-assoc fed (feeds x) (fedBy xs))
       (founded-all (after notAfter m s x) (union fed (feeds x)) xs
-          (and-right (may notAfter m s x) (mayAll notAfter m (after notAfter m s x) xs) t)
-          (founded-move s fed x (and-left (may notAfter m s x) (mayAll notAfter m (after notAfter m s x) xs) t) f))
+      (and-right (may notAfter m s x) (mayAll notAfter m (after notAfter m s x) xs) t)
+      (founded-move s fed x (and-left (may notAfter m s x) (mayAll notAfter m (after notAfter m s x) xs) t) f))
 
   -- the start is founded, with nothing fed
   pub founded-start : Founded notAfter m (start m) none

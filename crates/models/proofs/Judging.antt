@@ -1,16 +1,12 @@
 -- Each verdict as the facts that it stands for, and back.
 use Prim.Native.Nat.{ℕ, _<_}
-use mathlib.Core.Bool.{Bool, true, false, not, _&&_, _||_}
-use mathlib.Core.List.{List, [], _∷_}
-use mathlib.Core.Logic.{_⊎_, inl, inr, ⊎-elim}
-use mathlib.Core.Path.{_≡_, refl, sym, subst}
+use mathlib.Core.Bool.{Bool, not, _&&_}
+use mathlib.Core.Logic.{_⊎_}
 use lib.Dec.{T}
 use lib.ListN.{length}
-use Rattle.std.specs.declared.option.Option.{Option}
-use Rattle.std.specs.declared.option.Option.the-variants.{Some, None}
-use Rattle.books.specs.Meaning.{Rule, Meaning, ruleAt}
+use Rattle.books.specs.Meaning.{Rule, Meaning}
 use Rattle.books.specs.Judged.{relates}
-use Rattle.models.specs.Sets.{Set, Within, every, some, someBelow}
+use Rattle.models.specs.Sets.{Set, Within, every, some}
 use Rattle.models.specs.Verdicts.{inBook, isDerived, holds, headsSome, ready, due, pending, blocks, blocked, safe, awaited, ruledOut}
 use Rattle.models.proofs.Truth.{and-in, and-left, and-right, or-left, or-right, or-out, not-in, not-out}
 use Rattle.models.proofs.Members.{some-out, below-in, below-out}
@@ -41,7 +37,8 @@ module _ {S : Type 0} (m : Meaning S) where
       record {
         derived = and-left d p (and-left (d && p) (not n) t);
         positives = and-right d p (and-left (d && p) (not n) t);
-        negatives = not-out n (and-right (d && p) (not n) t) }
+        negatives = not-out n (and-right (d && p) (not n) t);
+      }
 
   pub ready-in : (held : Set) (r : Rule) → Ready m held r → T (ready m held r)
   unfolding ready
@@ -122,9 +119,9 @@ module _ {S : Type 0} (m : Meaning S) where
       ruled-in a f g =
           and-in (not (holds m held a)) (not (awaited notAfter m held stillOpen a)) (not-in (holds m held a) f)
           (not-in (awaited notAfter m held stillOpen a) (λ t.
-              let w : (b : ℕ) × (b < length (m .atoms)) × T (pending m held stillOpen b && relates notAfter m b a) = below-out (length (m .atoms)) (λ b. pending m held stillOpen b && relates notAfter m b a) t in
-              let p = pending m held stillOpen (w .0) in let s = relates notAfter m (w .0) a in
-              g (w .0) (and-left p s (w .2)) (and-right p s (w .2))))
+          let w : (b : ℕ) × (b < length (m .atoms)) × T (pending m held stillOpen b && relates notAfter m b a) = below-out (length (m .atoms)) (λ b. pending m held stillOpen b && relates notAfter m b a) t in
+          let p = pending m held stillOpen (w .0) in let s = relates notAfter m (w .0) a in
+          g (w .0) (and-left p s (w .2)) (and-right p s (w .2))))
 
       pub ruled-unheld : (a : ℕ) → T (ruledOut notAfter m held stillOpen a) → T (holds m held a) → ⊥
       unfolding ruledOut
@@ -135,5 +132,5 @@ module _ {S : Type 0} (m : Meaning S) where
       ruled-none a t b p s =
           not-out (awaited notAfter m held stillOpen a) (and-right (not (holds m held a)) (not (awaited notAfter m held stillOpen a)) t)
           (below-in (length (m .atoms)) (λ b. pending m held stillOpen b && relates notAfter m b a) b
-              (place m b (related-in-book m notAfter b a s))
-              (and-in (pending m held stillOpen b) (relates notAfter m b a) p s))
+          (place m b (related-in-book m notAfter b a s))
+          (and-in (pending m held stillOpen b) (relates notAfter m b a) p s))

@@ -1,10 +1,10 @@
 -- What every state of a run keeps: open atoms are readings, held ones are in the book, no atom is both, and of the readings only the fed are held.
 use Prim.Native.Nat.{ℕ}
-use mathlib.Core.Bool.{Bool, true, false, not, _&&_, _||_}
+use mathlib.Core.Bool.{Bool, not, _||_}
 use mathlib.Core.List.{List, [], _∷_}
-use mathlib.Core.Logic.{_⊎_, inl, inr, ⊎-elim}
-use mathlib.Core.Path.{_≡_, refl, sym, subst}
-use lib.Dec.{T, eqb, eqb→eq}
+use mathlib.Core.Logic.{⊎-elim}
+use mathlib.Core.Path.{subst}
+use lib.Dec.{T, eqb}
 use Rattle.std.specs.declared.option.Option.{Option}
 use Rattle.std.specs.declared.option.Option.the-variants.{Some, None}
 use Rattle.books.specs.Meaning.{Meaning, readingOf}
@@ -18,7 +18,7 @@ use Rattle.models.proofs.Truth.{and-left, and-right, or-left, or-right, or-out
 use Rattle.models.proofs.Places.{Headed}
 use Rattle.models.proofs.Uniqueness.{head-derived}
 use Rattle.models.proofs.Judging.{ready-out, due-rule}
-use Rattle.models.proofs.Lasting.{Grows, grows}
+use Rattle.models.proofs.Lasting.{grows}
 use Rattle.models.proofs.Founding.{Founded, founded-run}
 use Rattle.models.proofs.Settling.{held-in-book}
 
@@ -75,7 +75,7 @@ module _ {S : Type 0} {before notAfter : S → S → Bool} (laws : Lawful before
   held-fed s fed f a r h =
       ⊎-elim (λ e. e) (λ d. absurd (not-both m a r d)) (or-out (fed a) (isDerived m a)
       (f .grounded (λ b. fed b || isDerived m b) (λ b e. or-left (fed b) (isDerived m b) e)
-          (λ k x e ps ns. or-right (fed (x .head)) (isDerived m (x .head)) (head-derived laws sound k x e)) a h))
+      (λ k x e ps ns. or-right (fed (x .head)) (isDerived m (x .head)) (head-derived laws sound k x e)) a h))
 
   pub kept : (xs : List Move) → Run notAfter m xs → Kept m (reached notAfter m xs) (fedBy xs)
   kept xs run =
@@ -85,4 +85,5 @@ module _ {S : Type 0} {before notAfter : S → S → Bool} (laws : Lawful before
         heldInBook = held-in-book laws sound (reached notAfter m xs) (fedBy xs) f;
         apart = λ a o h. fed-not-open notAfter m (start m) xs run a (held-fed (reached notAfter m xs) (fedBy xs) f a (f .opens a o) h) o;
         fedHeld = f .fedHeld;
-        heldFed = held-fed (reached notAfter m xs) (fedBy xs) f }
+        heldFed = held-fed (reached notAfter m xs) (fedBy xs) f;
+      }

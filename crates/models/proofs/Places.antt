@@ -1,17 +1,16 @@
 -- Atoms and rules of a book by their numbers, and how the order of stamps orders the atoms.
-use Prim.Native.Nat.{ℕ, zero, suc, _<_, _≤_, _+_}
+use Prim.Native.Nat.{ℕ, zero, suc, _<_}
 use native.Mathlib.Nat.{not-suc-le-zero, le-of-suc-le-suc}
 use native.Mathlib.Omega.{arith}
-use mathlib.Core.Bool.{Bool, true, false, not, _&&_}
+use mathlib.Core.Bool.{Bool, false, not, _&&_}
 use mathlib.Core.List.{List, [], _∷_}
-use mathlib.Core.Path.{_≡_, refl, sym, subst, ap}
-use lib.Dec.{T, eqb, eqb→eq, eqb-refl, ltb, ltb→lt, lt→ltb}
+use mathlib.Core.Path.{_≡_, refl, sym, subst}
+use lib.Dec.{T, eqb, eqb→eq, eqb-refl, ltb→lt, lt→ltb}
 use lib.ListN.{length}
 use Rattle.std.specs.declared.option.Option.{Option}
 use Rattle.std.specs.declared.option.Option.the-variants.{Some, None}
 use Rattle.books.specs.Meaning.{Rule, Atom, Meaning, ruleAt, stampOf, readingOf}
 use Rattle.books.specs.Judged.{bothPass, relates}
-use Rattle.models.specs.Sets.{Set, someBelow}
 use Rattle.models.specs.Orders.{Lawful}
 use Rattle.models.specs.Verdicts.{passes, inBook, isReading, isDerived, headsSome}
 use Rattle.models.proofs.Truth.{and-in, and-left, and-right, false-out}
@@ -94,9 +93,13 @@ module _ {S : Type 0} (m : Meaning S) where
       let both : Rule → Bool = λ r. eqb (r .head) a && test r in
       let f : (k : ℕ) × (k < length (m .rules)) × T (passes both (ruleAt m k)) = below-out (length (m .rules)) (λ k. passes both (ruleAt m k)) t in
       let w : (r : Rule) × (ruleAt m (f .0) ≡ Some r) × T (both r) = passes-out both (ruleAt m (f .0)) (f .2) in
-      record { number = f .0; rule = w .0; is = w .1;
+      record {
+        number = f .0;
+        rule = w .0;
+        is = w .1;
         heads = eqb→eq (w .0 .head) a (and-left (eqb (w .0 .head) a) (test (w .0)) (w .2));
-        so = and-right (eqb (w .0 .head) a) (test (w .0)) (w .2) }
+        so = and-right (eqb (w .0 .head) a) (test (w .0)) (w .2);
+      }
 
   pub headed-in : (test : Rule → Bool) (a : ℕ) → Headed m a (λ r. T (test r)) → T (headsSome m test a)
   headed-in test a h =
@@ -104,7 +107,7 @@ module _ {S : Type 0} (m : Meaning S) where
       below-in (length (m .rules)) (λ k. passes both (ruleAt m k)) (h .number)
       (rule-there (m .atoms) (m .rules) (h .number) (h .rule) (h .is))
       (passes-in both (ruleAt m (h .number)) (h .rule) (h .is)
-          (and-in (eqb (h .rule .head) a) (test (h .rule)) (same-number (h .rule .head) a (h .heads)) (h .so)))
+      (and-in (eqb (h .rule .head) a) (test (h .rule)) (same-number (h .rule .head) a (h .heads)) (h .so)))
 
 -- the order of stamps, as an order of the book's atoms
 module _ {S : Type 0} {before notAfter : S → S → Bool} (laws : Lawful before notAfter) (m : Meaning S) where

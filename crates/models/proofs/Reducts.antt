@@ -1,15 +1,15 @@
 -- What it means that a set is closed under what remains of the rules, in terms of the rules themselves.
-use Prim.Native.Nat.{ℕ, zero, suc, _<_, _+_}
+use Prim.Native.Nat.{ℕ}
 use native.Mathlib.Omega.{arith}
 use mathlib.Core.Bool.{Bool, true, false, cond}
-use mathlib.Core.List.{List, [], _∷_}
+use mathlib.Core.List.{[]}
 use mathlib.Core.Path.{_≡_, refl, sym, _∙_, subst, ap}
 use lib.Dec.{T}
 use Rattle.std.specs.declared.option.Option.{Option}
 use Rattle.std.specs.declared.option.Option.the-variants.{Some, None}
 use Rattle.books.specs.Meaning.{Rule, Meaning, bindSome, ruleAt}
-use Rattle.models.specs.Sets.{Set, Within, every, some}
-use Rattle.models.specs.Stability.{reduced, remaining, Closed}
+use Rattle.models.specs.Sets.{Set, every, some}
+use Rattle.models.specs.Stability.{reduced, Closed}
 use Rattle.models.proofs.Truth.{false-in}
 
 bind-out : {X Y : Type 0} (f : X → Option Y) (o : Option X) (y : Y) → bindSome f o ≡ Some y → (x : X) × (o ≡ Some x) × (f x ≡ Some y)

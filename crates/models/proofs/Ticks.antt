@@ -3,7 +3,7 @@ use Prim.Native.Nat.{ℕ, zero, suc, _<_, _≤_}
 use native.Mathlib.Omega.{arith}
 use mathlib.Core.Bool.{Bool, true, false, not, _&&_}
 use mathlib.Core.List.{List, [], _∷_}
-use mathlib.Core.Path.{_≡_, refl, sym, subst}
+use mathlib.Core.Path.{_≡_, refl, subst}
 use lib.Dec.{T, leb, ltb, leb→le, le→leb, ltb→lt, lt→ltb}
 use lib.ListN.{length}
 use Rattle.std.specs.Finite.{All}
@@ -19,12 +19,13 @@ use Rattle.models.proofs.Truth.{and-left, and-right, false-in}
 
 pub ticks : Lawful ltb leb
 ticks = record {
-    reflexive = λ a. le→leb a a (omega arith);
-    irreflexive = λ a. false-in (ltb a a) (λ t. let l : a < a = ltb→lt a a t in omega arith);
-    transitive = λ a b c p q. le→leb a c (let l : a ≤ b = leb→le a b p in let k : b ≤ c = leb→le b c q in omega arith);
-    weakens = λ a b p. le→leb a b (let l : a < b = ltb→lt a b p in omega arith);
-    strictLeft = λ a b c p q. lt→ltb a c (let l : a < b = ltb→lt a b p in let k : b ≤ c = leb→le b c q in omega arith);
-    strictRight = λ a b c p q. lt→ltb a c (let l : a ≤ b = leb→le a b p in let k : b < c = ltb→lt b c q in omega arith) }
+  reflexive = λ a. le→leb a a (omega arith);
+  irreflexive = λ a. false-in (ltb a a) (λ t. let l : a < a = ltb→lt a a t in omega arith);
+  transitive = λ a b c p q. le→leb a c (let l : a ≤ b = leb→le a b p in let k : b ≤ c = leb→le b c q in omega arith);
+  weakens = λ a b p. le→leb a b (let l : a < b = ltb→lt a b p in omega arith);
+  strictLeft = λ a b c p q. lt→ltb a c (let l : a < b = ltb→lt a b p in let k : b ≤ c = leb→le b c q in omega arith);
+  strictRight = λ a b c p q. lt→ltb a c (let l : a ≤ b = leb→le a b p in let k : b < c = ltb→lt b c q in omega arith);
+}
 
 every-all : (X : Set) (xs : List ℕ) → T (every X xs) → All (λ a. T (X a)) xs
 every-all X [] t = tt
@@ -72,7 +73,8 @@ module _ {S : Type 0} (before notAfter : S → S → Bool) (m : Meaning S) where
         fewNegatives = leb→le (length (r .negatives)) 6 (and-right (leb (length (r .positives)) 6) (leb (length (r .negatives)) 6) short);
         derived = derived-out (readingOf m (r .head)) (and-left (isDerived m (r .head)) (ordered r) rest);
         positives = every-all (λ a. relates notAfter m a (r .head)) (r .positives) (and-left ps ns order);
-        negatives = every-all (λ a. relates before m a (r .head)) (r .negatives) (and-right ps ns order) }
+        negatives = every-all (λ a. relates before m a (r .head)) (r .negatives) (and-right ps ns order);
+      }
 
   pub sound-by : length (m .atoms) ≤ 1024 → length (m .rules) ≤ 1024 → T (eachRule fits (m .rules)) → Sound before notAfter m
   sound-by a r t = record { fewAtoms = a; fewRules = r; rules = λ k x e. fits-out x (at-number (m .atoms) fits (m .rules) t k x e) }

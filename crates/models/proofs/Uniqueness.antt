@@ -1,19 +1,18 @@
 -- Two stable models of one set of readings are the same set.
-use Prim.Native.Nat.{ℕ, zero, suc, _<_, _≤_, _+_}
+use Prim.Native.Nat.{ℕ, zero, suc, _<_}
 use native.Mathlib.Nat.{not-suc-le-zero}
 use native.Mathlib.Omega.{arith}
-use mathlib.Core.Bool.{Bool, true, false, not, _&&_, _||_}
-use mathlib.Core.Path.{_≡_, refl, sym, subst}
+use mathlib.Core.Bool.{Bool, true, false, not}
+use mathlib.Core.Path.{_≡_, sym, subst}
 use lib.Dec.{T}
 use Rattle.std.specs.declared.option.Option.{Option}
-use Rattle.std.specs.declared.option.Option.the-variants.{Some, None}
-use Rattle.std.specs.Finite.{All}
-use Rattle.books.specs.Meaning.{Rule, Meaning, ruleAt, readingOf}
-use Rattle.books.specs.Judged.{Sound, SoundRule, relates}
+use Rattle.std.specs.declared.option.Option.the-variants.{Some}
+use Rattle.books.specs.Meaning.{Rule, Meaning, ruleAt}
+use Rattle.books.specs.Judged.{Sound, relates}
 use Rattle.models.specs.Sets.{Set, Within, Same, every, some}
 use Rattle.models.specs.Orders.{Lawful}
-use Rattle.models.specs.Verdicts.{passes, inBook, isReading, isDerived}
-use Rattle.models.specs.Stability.{Closed, ReadingsOf, Stable}
+use Rattle.models.specs.Verdicts.{passes, inBook, isDerived}
+use Rattle.models.specs.Stability.{ReadingsOf, Stable}
 use Rattle.models.proofs.Truth.{same}
 use Rattle.models.proofs.Members.{every-with, some-moved}
 use Rattle.models.proofs.Places.{reading-in-book, derived-in-book, reflexive, transitive, strictLeft, depth, deeper}
@@ -51,24 +50,26 @@ module _ {S : Type 0} {before notAfter : S → S → Bool} (laws : Lawful before
       where
         X : Set
         X b = given (relates notAfter m b a) (N b)
+
         has : Within R X
         has b t = given-in (relates notAfter m b a) (N b) (λ _. stableN .has b t)
+
         leads : (k : ℕ) (r : Rule) → ruleAt m k ≡ Some r → T (every X (r .positives)) → (T (some M (r .negatives)) → ⊥) → T (X (r .head))
         leads k r e ps ns =
             given-in (relates notAfter m (r .head) a) (N (r .head)) (λ below.
-                closed-out m N N (stableN .closed) k r e
-                (every-with (λ p. T (relates notAfter m p (r .head))) X N
-                    (λ p q x. given-out (relates notAfter m p a) (N p) (transitive laws m p (r .head) a q below) x)
-                    (r .positives) (sound .rules k r e .positives) ps)
-                (λ t. ns (some-moved (λ n. T (relates before m n (r .head))) N M
-                    (λ n q x. subst T (sym (agree n (strictLeft laws m n (r .head) a q below))) x)
-                    (r .negatives) (sound .rules k r e .negatives) t)))
+            closed-out m N N (stableN .closed) k r e
+            (every-with (λ p. T (relates notAfter m p (r .head))) X N
+            (λ p q x. given-out (relates notAfter m p a) (N p) (transitive laws m p (r .head) a q below) x)
+            (r .positives) (sound .rules k r e .positives) ps)
+            (λ t. ns (some-moved (λ n. T (relates before m n (r .head))) N M
+            (λ n q x. subst T (sym (agree n (strictLeft laws m n (r .head) a q below))) x)
+            (r .negatives) (sound .rules k r e .negatives) t)))
 
   agreeing : (R M N : Set) → ReadingsOf m R → Stable m R M → Stable m R N → (n a : ℕ) → depth laws m a < n → M a ≡ N a
   agreeing R M N readings stableM stableN zero a h = absurd (not-suc-le-zero h)
   agreeing R M N readings stableM stableN (suc n) a h =
       let below : (b : ℕ) → T (relates before m b a) → M b ≡ N b
-          = λ b t. agreeing R M N readings stableM stableN n b (let q : depth laws m b < depth laws m a = deeper laws m b a t in omega arith) in
+      = λ b t. agreeing R M N readings stableM stableN n b (let q : depth laws m b < depth laws m a = deeper laws m b a t in omega arith) in
       same (M a) (N a)
       (λ t. part R M N stableM stableN a (model-in-book R M readings stableM a t) below t)
       (λ t. part R N M stableN stableM a (model-in-book R N readings stableN a t) (λ b u. sym (below b u)) t)

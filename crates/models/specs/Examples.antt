@@ -1,18 +1,17 @@
 -- Small books, and what the definitions say of them. Stamps are ticks, compared as numbers, or routes as masks of aisles.
 use Prim.Native.Nat.{ℕ, zero, suc}
-use mathlib.Core.Bool.{Bool, true, false, cond}
+use mathlib.Core.Bool.{true, false, cond}
 use mathlib.Core.List.{List, [], _∷_, _++_}
 use mathlib.Core.Path.{_≡_}
 use lib.Dec.{leb, eqb}
 use lib.ListN.{length}
-use Rattle.std.specs.declared.option.Option.{Option}
-use Rattle.std.specs.declared.option.Option.the-variants.{Some, None}
+use Rattle.std.specs.declared.option.Option.the-variants.{Some}
 use Rattle.stamps.specs.Aisles.{partOf}
 use Rattle.books.specs.Meaning.{Rule, Atom, Meaning}
 use Rattle.models.specs.Sets.{Set, some}
 use Rattle.models.specs.Verdicts.{due, blocks, safe}
 use Rattle.models.specs.Stability.{ReadingsOf, Stable}
-use Rattle.models.specs.Moves.{State, Move, feed, close, take, sweep, start, may, reached, ruledOutIn, modelOf}
+use Rattle.models.specs.Moves.{State, feed, close, take, sweep, start, may, reached, ruledOutIn, modelOf}
 
 -- the set of the atoms of a list
 abbrev pub among : List ℕ → Set
@@ -43,7 +42,8 @@ levelPair = record { atoms = derives 1 ∷ derives 1 ∷ []; rules = Some (from 
 abbrev pub fiveAtoms : Meaning ℕ
 fiveAtoms = record {
   atoms = reads 1 ∷ reads 2 ∷ derives 2 ∷ derives 3 ∷ derives 4 ∷ [];
-  rules = Some (from 2 (1 ∷ []) []) ∷ Some (from 3 (0 ∷ []) (2 ∷ [])) ∷ Some (from 4 (0 ∷ []) (3 ∷ [])) ∷ [] }
+  rules = Some (from 2 (1 ∷ []) []) ∷ Some (from 3 (0 ∷ []) (2 ∷ [])) ∷ Some (from 4 (0 ∷ []) (3 ∷ [])) ∷ [];
+}
 
 -- a fact 0 at route {1}; 1 at {2, 3} from not 2; 2 at {2}, which has no rule; as masks the routes are 2, 12 and 4
 abbrev pub threeRoutes : Meaning ℕ
@@ -57,8 +57,10 @@ pub record ModelIs (m : Meaning ℕ) (readings atoms : List ℕ) : Type 0 where
 -- the book of five atoms with 0 fed; with 1 closed then; and after a sweep
 abbrev pub fed0 : State
 fed0 = reached leb fiveAtoms (feed 0 ∷ [])
+
 abbrev pub closed1 : State
 closed1 = reached leb fiveAtoms (feed 0 ∷ close 1 ∷ [])
+
 abbrev pub swept : State
 swept = reached leb fiveAtoms (feed 0 ∷ close 1 ∷ sweep ∷ [])
 

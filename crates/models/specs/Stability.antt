@@ -1,6 +1,6 @@
 -- Stable models of a book: what remains of its rules once a set has judged their negatives, and the least set closed under that.
 use Prim.Native.Nat.{ℕ}
-use mathlib.Core.Bool.{Bool, cond}
+use mathlib.Core.Bool.{cond}
 use mathlib.Core.List.{[]}
 use mathlib.Core.Path.{_≡_}
 use lib.Dec.{T}

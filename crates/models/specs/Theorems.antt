@@ -1,6 +1,6 @@
 -- What holds of every book that the check accepts. The tests `before` and `notAfter` are those of any order that keeps the laws.
 use Prim.Native.Nat.{ℕ}
-use mathlib.Core.Bool.{Bool, true, false}
+use mathlib.Core.Bool.{Bool, false}
 use mathlib.Core.List.{List, _++_}
 use mathlib.Core.Path.{_≡_}
 use lib.Dec.{T}
@@ -49,7 +49,7 @@ DueGivesSafe {S} before notAfter =
     (a : ℕ) → T (due m held a) → (b : ℕ) × T (safe notAfter m held stillOpen b)
 
 -- With nothing open, whatever is held: after as many sweeps as there are atoms, nothing is due.
--- For a planner: how long a run can take is known beforehand.
+-- For a planner: no more sweeps are ever needed than the book has atoms.
 abbrev pub SweepingEnds : {S : Type 0} → (S → S → Bool) → (S → S → Bool) → Type 0
 SweepingEnds {S} before notAfter =
     (m : Meaning S) → Sound before notAfter m → (s : State) → NothingOpen s → NothingDue m (afterAll notAfter m s (sweeps (length (m .atoms))))
@@ -58,7 +58,7 @@ SweepingEnds {S} before notAfter =
 pub record EndsInModel {S : Type 0} (notAfter : S → S → Bool) (m : Meaning S) (moves : List Move) : Type 0 where
   pub model : Stable m (fedBy moves) (reached notAfter m moves .held)
   pub same : (others : List Move) → Run notAfter m others → NothingOpen (reached notAfter m others) → NothingDue m (reached notAfter m others) →
-    Same (fedBy others) (fedBy moves) → Same (reached notAfter m others .held) (reached notAfter m moves .held)
+      Same (fedBy others) (fedBy moves) → Same (reached notAfter m others .held) (reached notAfter m moves .held)
 
 -- A run with nothing due and nothing open holds exactly the stable model of the readings that it fed.
 -- For a planner: the order in which readings come and atoms are taken or swept makes no difference to where a run ends.

@@ -1,7 +1,6 @@
 -- What a book's meaning says of two sets of atoms, the held and the still open: which rules are ready,
 -- which atoms are due, which block, which are safe to take and which are ruled out.
-use Prim.Native.Nat.{ℕ}
-use mathlib.Core.Bool.{Bool, true, false, not, _&&_, _||_}
+use mathlib.Core.Bool.{Bool, false, not, _&&_, _||_}
 use lib.Dec.{eqb, ltb}
 use lib.ListN.{length}
 use Rattle.std.specs.declared.option.Option.{Option}
