@@ -87,7 +87,7 @@ module _ {S : Type 0} (notAfter : S → S → Bool) (m : Meaning S) (s : State) 
 
 -- what a move does to the sets
 module _ {S : Type 0} (notAfter : S → S → Bool) (m : Meaning S) (s : State) where
-  fed-open : (x : Move) → T (may notAfter m s x) → (a : ℕ) → T (feeds x a) → T (s .stillOpen a)
+  pub fed-open : (x : Move) → T (may notAfter m s x) → (a : ℕ) → T (feeds x a) → T (s .stillOpen a)
   fed-open (feed x) t a f = subst (λ (b : ℕ). T (s .stillOpen b)) (eqb→eq x a f) t
   fed-open (close x) t a f = absurd f
   fed-open (take x) t a f = absurd f

@@ -2,9 +2,9 @@
 use Prim.Native.Nat.{ℕ}
 use mathlib.Core.Bool.{Bool, not, _||_}
 use mathlib.Core.List.{List, [], _∷_}
-use mathlib.Core.Logic.{⊎-elim}
+use mathlib.Core.Logic.{_⊎_, inl, inr, ⊎-elim}
 use mathlib.Core.Path.{subst}
-use lib.Dec.{T, eqb}
+use lib.Dec.{T, eqb, eqb→eq}
 use Rattle.std.specs.declared.option.Option.{Option}
 use Rattle.std.specs.declared.option.Option.the-variants.{Some, None}
 use Rattle.books.specs.Meaning.{Meaning, readingOf}
@@ -13,13 +13,13 @@ use Rattle.models.specs.Sets.{Set, Within}
 use Rattle.models.specs.Orders.{Lawful}
 use Rattle.models.specs.Verdicts.{passes, inBook, isReading, isDerived, ready, due}
 use Rattle.models.specs.Stability.{ReadingsOf}
-use Rattle.models.specs.Moves.{State, Move, feed, close, take, sweep, start, may, after, afterAll, mayAll, Run, reached, feeds, fedBy}
-use Rattle.models.proofs.Truth.{and-left, and-right, or-left, or-right, or-out, not-out}
+use Rattle.models.specs.Moves.{State, Move, feed, close, take, sweep, start, may, after, afterAll, mayAll, Run, reached, feeds, closes, fedBy, closedBy, Outcome}
+use Rattle.models.proofs.Truth.{and-left, and-right, or-left, or-right, or-out, not-out, false-in}
 use Rattle.models.proofs.Places.{Headed}
 use Rattle.models.proofs.Uniqueness.{head-derived}
 use Rattle.models.proofs.Judging.{ready-out, due-rule}
 use Rattle.models.proofs.Lasting.{grows}
-use Rattle.models.proofs.Founding.{Founded, founded-run}
+use Rattle.models.proofs.Founding.{Founded, fed-open, founded-run}
 use Rattle.models.proofs.Settling.{held-in-book}
 
 -- no atom is both a reading and derived
@@ -45,11 +45,53 @@ module _ {S : Type 0} (notAfter : S → S → Bool) (m : Meaning S) where
       grows notAfter m s x (and-left (may notAfter m s x) (mayAll notAfter m next xs) t) .fewer a
       (fewer-all next xs (and-right (may notAfter m s x) (mayAll notAfter m next xs) t) a o)
 
+  closed-open : (s : State) (x : Move) → T (may notAfter m s x) → (a : ℕ) → T (closes x a) → T (s .stillOpen a)
+  closed-open s (feed x) t a c = absurd c
+  closed-open s (close x) t a c = subst (λ (b : ℕ). T (s .stillOpen b)) (eqb→eq x a c) t
+  closed-open s (take x) t a c = absurd c
+  closed-open s sweep t a c = absurd c
+
   fed-shut : (s : State) (x : Move) (a : ℕ) → T (feeds x a) → T (after notAfter m s x .stillOpen a) → ⊥
   fed-shut s (feed x) a f o = not-out (eqb x a) (and-right (s .stillOpen a) (not (eqb x a)) o) f
   fed-shut s (close x) a f o = f
   fed-shut s (take x) a f o = f
   fed-shut s sweep a f o = f
+
+  closed-shut : (s : State) (x : Move) (a : ℕ) → T (closes x a) → T (after notAfter m s x .stillOpen a) → ⊥
+  closed-shut s (feed x) a c o = c
+  closed-shut s (close x) a c o = not-out (eqb x a) (and-right (s .stillOpen a) (not (eqb x a)) o) c
+  closed-shut s (take x) a c o = c
+  closed-shut s sweep a c o = c
+
+  one-only : (x : Move) (a : ℕ) → T (feeds x a) → T (closes x a) → ⊥
+  one-only (feed x) a f c = c
+  one-only (close x) a f c = f
+  one-only (take x) a f c = f
+  one-only sweep a f c = f
+
+  -- what is not open is neither fed nor closed any more
+  never-again : (s : State) (xs : List Move) → T (mayAll notAfter m s xs) → (a : ℕ) → (T (s .stillOpen a) → ⊥) → T (fedBy xs a) ⊎ T (closedBy xs a) → ⊥
+  never-again s [] t a shut w = ⊎-elim (λ f. f) (λ c. c) w
+  never-again s (x ∷ xs) t a shut w =
+      let next = after notAfter m s x in
+      let first = and-left (may notAfter m s x) (mayAll notAfter m next xs) t in
+      let later : T (fedBy xs a) ⊎ T (closedBy xs a) → ⊥
+      = never-again next xs (and-right (may notAfter m s x) (mayAll notAfter m next xs) t) a (λ o. shut (grows notAfter m s x first .fewer a o)) in
+      ⊎-elim
+      (λ f. ⊎-elim (λ e. shut (fed-open notAfter m s x first a e)) (λ e. later (inl e)) (or-out (feeds x a) (fedBy xs a) f))
+      (λ c. ⊎-elim (λ e. shut (closed-open s x first a e)) (λ e. later (inr e)) (or-out (closes x a) (closedBy xs a) c))
+      w
+
+  -- no reading is both fed and closed
+  pub fed-not-closed : (s : State) (xs : List Move) → T (mayAll notAfter m s xs) → (a : ℕ) → T (fedBy xs a) → T (closedBy xs a) → ⊥
+  fed-not-closed s [] t a f c = f
+  fed-not-closed s (x ∷ xs) t a f c =
+      let next = after notAfter m s x in
+      let rest = and-right (may notAfter m s x) (mayAll notAfter m next xs) t in
+      ⊎-elim
+      (λ e. ⊎-elim (one-only x a e) (λ d. never-again next xs rest a (fed-shut s x a e) (inr d)) (or-out (closes x a) (closedBy xs a) c))
+      (λ e. ⊎-elim (λ d. never-again next xs rest a (closed-shut s x a d) (inl e)) (fed-not-closed next xs rest a e) (or-out (closes x a) (closedBy xs a) c))
+      (or-out (feeds x a) (fedBy xs a) f)
 
   -- what was fed is not open
   pub fed-not-open : (s : State) (xs : List Move) → T (mayAll notAfter m s xs) → (a : ℕ) → T (fedBy xs a) → T (afterAll notAfter m s xs .stillOpen a) → ⊥
@@ -57,10 +99,15 @@ module _ {S : Type 0} (notAfter : S → S → Bool) (m : Meaning S) where
   fed-not-open s (x ∷ xs) t a f o =
       let next = after notAfter m s x in
       let rest = and-right (may notAfter m s x) (mayAll notAfter m next xs) t in
-      ⊎-elim
-      (λ e. fed-shut s x a e (fewer-all next xs rest a o))
-      (λ e. fed-not-open next xs rest a e o)
-      (or-out (feeds x a) (fedBy xs a) f)
+      ⊎-elim (λ e. fed-shut s x a e (fewer-all next xs rest a o)) (λ e. fed-not-open next xs rest a e o) (or-out (feeds x a) (fedBy xs a) f)
+
+  -- what was closed is not open
+  pub closed-not-open : (s : State) (xs : List Move) → T (mayAll notAfter m s xs) → (a : ℕ) → T (closedBy xs a) → T (afterAll notAfter m s xs .stillOpen a) → ⊥
+  closed-not-open s [] t a c o = c
+  closed-not-open s (x ∷ xs) t a c o =
+      let next = after notAfter m s x in
+      let rest = and-right (may notAfter m s x) (mayAll notAfter m next xs) t in
+      ⊎-elim (λ e. closed-shut s x a e (fewer-all next xs rest a o)) (λ e. closed-not-open next xs rest a e o) (or-out (closes x a) (closedBy xs a) c)
 
 pub record Kept {S : Type 0} (m : Meaning S) (s : State) (fed : Set) : Type 0 where
   pub openReadings : ReadingsOf m (s .stillOpen)
@@ -87,3 +134,17 @@ module _ {S : Type 0} {before notAfter : S → S → Bool} (laws : Lawful before
         fedHeld = f .fedHeld;
         heldFed = held-fed (reached notAfter m xs) (fedBy xs) f;
       }
+
+  -- whichever of the open readings come, they and the fed ones are a possible outcome
+  pub may-come : (xs : List Move) → Run notAfter m xs → (come : Set) → Within come (reached notAfter m xs .stillOpen) → Outcome m xs (λ a. fedBy xs a || come a)
+  may-come xs run come within = record {
+    readingsOnly = λ a h. ⊎-elim (founded .readings a) (λ e. founded .opens a (within a e)) (or-out (fedBy xs a) (come a) h);
+    fed = λ a f. or-left (fedBy xs a) (come a) f;
+    noneClosed = λ a c. false-in (fedBy xs a || come a) (λ h. ⊎-elim
+        (λ f. fed-not-closed notAfter m (start m) xs run a f c)
+        (λ e. closed-not-open notAfter m (start m) xs run a c (within a e))
+        (or-out (fedBy xs a) (come a) h));
+  }
+    where
+      founded : Founded notAfter m (reached notAfter m xs) (fedBy xs)
+      founded = founded-run laws sound xs run

@@ -6,10 +6,11 @@ use Rattle.models.specs.Sets.{Set}
 use Rattle.models.specs.Orders.{Lawful}
 use Rattle.models.specs.Stability.{Stable}
 use Rattle.models.specs.Moves.{State, start, reached, fedBy, ruledOutIn, modelOf}
-use Rattle.models.specs.Theorems.{EachHasOneModel, RuledOutLasts, NothingTakenBack, DueGivesSafe, SweepingEnds, EndIsModel}
+use Rattle.models.specs.Theorems.{EachHasOneModel, RuledOutLasts, OpenMayCome, NothingTakenBack, DueGivesSafe, SweepingEnds, EndIsModel}
 use Rattle.models.proofs.Uniqueness.{unique}
 use Rattle.models.proofs.Lasting.{lasts-all}
 use Rattle.models.proofs.Founding.{founded-run}
+use Rattle.models.proofs.Keeping.{may-come}
 use Rattle.models.proofs.Progress as progress
 use Rattle.models.proofs.Settling.{model-stable, stable-end, held-in-model, out-of-model}
 use Rattle.models.proofs.Sequences.{after-append, may-then}
@@ -31,6 +32,9 @@ module _ {S : Type 0} {before notAfter : S → S → Bool} (laws : Lawful before
     held = held-in-model laws sound moves run R M outcome stable;
     out = out-of-model laws sound moves run R M outcome stable;
   }
+
+  pub open-may-come : OpenMayCome before notAfter
+  open-may-come m sound = may-come laws sound
 
   pub due-gives-safe : DueGivesSafe before notAfter
   due-gives-safe m sound = progress.something-safe laws sound

@@ -54,13 +54,15 @@ pub record ModelIs (m : Meaning ℕ) (readings atoms : List ℕ) : Type 0 where
   pub stable : Stable m (among readings) (modelOf leb m (among readings))
   pub each : (M : Set) → Stable m (among readings) M → listed (length (m .atoms)) M ≡ atoms
 
--- the book of five atoms with 0 fed; with 1 closed then; and after a sweep
+-- the book of five atoms with 0 fed
 abbrev pub fed0 : State
 fed0 = reached leb fiveAtoms (feed 0 ∷ [])
 
+-- and 1 closed then
 abbrev pub closed1 : State
 closed1 = reached leb fiveAtoms (feed 0 ∷ close 1 ∷ [])
 
+-- and a sweep after that
 abbrev pub swept : State
 swept = reached leb fiveAtoms (feed 0 ∷ close 1 ∷ sweep ∷ [])
 

@@ -64,12 +64,14 @@ abbrev pub sweeps : ℕ → List Move
 sweeps zero = []
 sweeps (suc n) = sweep ∷ sweeps n
 
+-- the reading that the move feeds, if it feeds one
 abbrev pub feeds : Move → Set
 feeds (feed x) a = eqb x a
 feeds (close x) a = false
 feeds (take x) a = false
 feeds sweep a = false
 
+-- the reading that the move closes, if it closes one
 abbrev pub closes : Move → Set
 closes (feed x) a = false
 closes (close x) a = eqb x a

@@ -1,6 +1,6 @@
 -- What holds of every book that the check accepts. The tests `before` and `notAfter` are those of any order that keeps the laws.
 use Prim.Native.Nat.{ℕ}
-use mathlib.Core.Bool.{Bool, false}
+use mathlib.Core.Bool.{Bool, false, _||_}
 use mathlib.Core.List.{List, _++_}
 use mathlib.Core.Path.{_≡_}
 use lib.Dec.{T}
@@ -28,6 +28,13 @@ abbrev pub RuledOutLasts : {S : Type 0} → (S → S → Bool) → (S → S → 
 RuledOutLasts {S} before notAfter =
     (m : Meaning S) → Sound before notAfter m → (moves more : List Move) → Run notAfter m (moves ++ more) → (a : ℕ) →
     T (ruledOutIn notAfter m (reached notAfter m moves) a) → T (ruledOutIn notAfter m (reached notAfter m (moves ++ more)) a)
+
+-- Whichever of the open readings come, they and the fed ones are a possible outcome.
+-- For a planner: of an open reading nothing is known yet, and there is always an outcome that what is told must be right for.
+abbrev pub OpenMayCome : {S : Type 0} → (S → S → Bool) → (S → S → Bool) → Type 0
+OpenMayCome {S} before notAfter =
+    (m : Meaning S) → Sound before notAfter m → (moves : List Move) → Run notAfter m moves → (come : Set) →
+    Within come (reached notAfter m moves .stillOpen) → Outcome m moves (λ a. fedBy moves a || come a)
 
 -- what the state says of a set M: all that is held is in M, and nothing that is ruled out is
 pub record TrueOf {S : Type 0} (notAfter : S → S → Bool) (m : Meaning S) (s : State) (M : Set) : Type 0 where

@@ -4,7 +4,7 @@
 use stamps::order::Order;
 ghost use Rattle.models.specs.Examples.{ExamplesHold};
 ghost use Rattle.models.specs.Shortcuts.{ShortcutsAreWrong};
-ghost use Rattle.models.specs.Theorems.{EachHasOneModel, RuledOutLasts, NothingTakenBack, DueGivesSafe, SweepingEnds, EndIsModel};
+ghost use Rattle.models.specs.Theorems.{EachHasOneModel, RuledOutLasts, OpenMayCome, NothingTakenBack, DueGivesSafe, SweepingEnds, EndIsModel};
 
 // Every set of readings of a checked book has exactly one stable model, and sweeping computes it.
 pub fn each_has_one_model<O: Order>()
@@ -16,9 +16,11 @@ pub fn ruled_out_lasts<O: Order>()
     ensures { λ _. ⌜ RuledOutLasts (O·Order .isBefore) (O·Order .isNotAfter) ⌝ }
 {}
 
-// Each held atom is in the stable model of every possible outcome, and each ruled out atom is in none.
+// Each held atom is in the stable model of every possible outcome, and each ruled out atom is in none;
+// and whichever of the open readings come, they and the fed ones are such an outcome.
 pub fn nothing_is_taken_back<O: Order>()
-    ensures { λ _. ⌜ NothingTakenBack (O·Order .isBefore) (O·Order .isNotAfter) ⌝ }
+    ensures possible { λ _. ⌜ OpenMayCome (O·Order .isBefore) (O·Order .isNotAfter) ⌝ }
+    ensures told { λ _. ⌜ NothingTakenBack (O·Order .isBefore) (O·Order .isNotAfter) ⌝ }
 {}
 
 // With nothing open, something due gives something safe.
