@@ -53,6 +53,7 @@ examples-hold = record {
   blockersOfThree = refl;
   blockersOfFour = refl;
   notYet = refl;
+  safeAtFirst = refl;
   undecidedAtFirst = refl;
   outThen = refl;
   safeThen = refl;

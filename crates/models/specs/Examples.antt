@@ -80,6 +80,7 @@ pub record ExamplesHold : Type 0 where
   pub blockersOfThree : listed 5 (blocks leb fiveAtoms (fed0 .held) (fed0 .stillOpen) (from 3 (0 ∷ []) (2 ∷ []))) ≡ 1 ∷ []
   pub blockersOfFour : listed 5 (blocks leb fiveAtoms (fed0 .held) (fed0 .stillOpen) (from 4 (0 ∷ []) (3 ∷ []))) ≡ 1 ∷ 3 ∷ []
   pub notYet : may leb fiveAtoms fed0 (take 3) ≡ false
+  pub safeAtFirst : listed 5 (safe leb fiveAtoms (fed0 .held) (fed0 .stillOpen)) ≡ []
   pub undecidedAtFirst : listed 5 (ruledOutIn leb fiveAtoms fed0) ≡ []
   -- with 1 closed, 1 and 2 are ruled out and 3 is safe; 4 still waits for 3
   pub outThen : listed 5 (ruledOutIn leb fiveAtoms closed1) ≡ 1 ∷ 2 ∷ []

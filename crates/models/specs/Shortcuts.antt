@@ -8,7 +8,7 @@ use lib.ListN.{length}
 use Rattle.std.specs.declared.option.Option.the-variants.{Some}
 use Rattle.books.specs.Meaning.{Rule, Meaning}
 use Rattle.books.specs.Judged.{Sound, relates}
-use Rattle.models.specs.Sets.{Set, someBelow}
+use Rattle.models.specs.Sets.{Set, some, someBelow}
 use Rattle.models.specs.Verdicts.{headsSome, ready, due, pending, safe}
 use Rattle.models.specs.Stability.{ReadingsOf, Stable}
 use Rattle.models.specs.Moves.{start, NothingOpen}
@@ -22,9 +22,10 @@ Shortcut = Meaning ℕ → Set → Set → Set
 abbrev pub strictly : Shortcut
 strictly = safe ltb
 
--- some atom that is due or still open stands to the rule's head as the test says
+-- some atom that is due or still open stands to the rule's head, in place of each negative, as the test says
 abbrev pub blockedByHead : (ℕ → ℕ → Bool) → Meaning ℕ → Set → Set → Rule → Bool
-blockedByHead test m held stillOpen r = someBelow (length (m .atoms)) (λ b. pending m held stillOpen b && relates test m b (r .head))
+blockedByHead test m held stillOpen r =
+    someBelow (length (m .atoms)) (λ b. pending m held stillOpen b && some (λ n. relates test m b (r .head)) (r .negatives))
 
 -- blockers are compared with the head in place of the negative
 abbrev pub byHead : (ℕ → ℕ → Bool) → Shortcut
@@ -74,7 +75,7 @@ pub record ShortcutsAreWrong : Type 0 where
   pub itself : TakesTooMuch strictly notReading 1 (among (0 ∷ []))
   -- the negative is level with an open reading that it follows from
   pub level : TakesTooMuch strictly notLevel 2 (among (0 ∷ []))
-  -- a due atom is not after itself, so by its head each rule with a negative is blocked for ever
+  -- a due atom is not after itself, so it blocks its own rule for ever
   pub notAfterHead : StandsStill (byHead leb) notAlone 1
-  -- strictly before the head stands much that cannot touch the negative
+  -- a reading before the head that is after the negative cannot make the negative hold
   pub beforeHead : WaitsForNothing (byHead ltb) notEarly 2
