@@ -1,0 +1,16 @@
+pub mod Truth
+pub mod Members
+pub mod Counting
+pub mod Places
+pub mod Reducts
+pub mod Uniqueness
+pub mod Judging
+pub mod Lasting
+pub mod Founding
+pub mod Progress
+pub mod Settling
+pub mod Sequences
+pub mod Keeping
+pub mod Theorems
+pub mod Ticks
+pub mod Shown
