@@ -1,9 +1,8 @@
--- The atoms that a table row's body stands for.
-use Prim.Native.Nat.{ℕ}
+-- The items that a row's body stands for.
 use mathlib.Core.List.{List}
 use lib.ListN.{take}
 use Rattle.makes.specs.declared.body.Body.{Body}
 
 -- the first len of its six places
-abbrev pub bodyAtoms : Body → List ℕ
-bodyAtoms b = take (b .len) (b .atoms)
+abbrev pub bodyItems : {X : Type 0} → Body X → List X
+bodyItems b = take (b .len) (b .items)

@@ -4,7 +4,7 @@ use mathlib.Core.List.{List, map}
 use Rattle.std.specs.declared.option.Option.{Option}
 use Rattle.std.specs.Options.{mapped}
 use Rattle.books.specs.Meaning.{Rule, Atom, Meaning}
-use Rattle.makes.specs.Bodies.{bodyAtoms}
+use Rattle.makes.specs.Bodies.{bodyItems}
 use Rattle.makes.specs.declared.rows.AtomRow.{AtomRow}
 use Rattle.makes.specs.declared.rows.RuleRow.{RuleRow}
 
@@ -16,7 +16,7 @@ abbrev pub ruleBy : ℕ → List ℕ → List ℕ → Rule
 ruleBy head positives negatives = record { head = head; positives = positives; negatives = negatives }
 
 abbrev pub ruleOf : RuleRow → Rule
-ruleOf r = ruleBy (r .head) (bodyAtoms (r .positives)) (bodyAtoms (r .negatives))
+ruleOf r = ruleBy (r .head) (bodyItems (r .positives)) (bodyItems (r .negatives))
 
 -- row k is atom or rule number k; a rule number whose row is None is vacant
 abbrev pub flatMeaning : {S : Type 0} → List (AtomRow S) → List (Option RuleRow) → Meaning S

@@ -1,11 +1,11 @@
 -- A route as a set of aisles, and what it means that one is part of another.
-use Prim.Native.Nat.{ℕ, zero, suc, _/_, _%_, _^_}
-use lib.Dec.{eqb}
+use Prim.Native.Nat.{ℕ, zero, suc}
 use mathlib.Core.Bool.{Bool, true, not, _&&_, _||_}
+use Rattle.words.specs.Bits.{hasBit}
 
 -- bit k of the mask says whether the route has aisle k
 abbrev pub hasAisle : ℕ → ℕ → Bool
-hasAisle mask k = eqb (mask / 2 ^ k % 2) 1
+hasAisle mask k = hasBit mask k
 
 -- if the first route has aisle k, so has the second
 abbrev pub sharesAisle : ℕ → ℕ → ℕ → Bool

@@ -1,44 +1,42 @@
 // What a body holds, by the list that it stands for.
+ghost use lib.Dec.{leb};
 ghost use lib.ListN.{length};
 ghost use mathlib.Core.Path.{_≡_};
-ghost use lib.Dec.{leb};
 ghost use Rattle.std.specs.Finite.{nth};
 ghost use Rattle.std.specs.Options.{mapped, whenTrue};
-ghost use Rattle.makes.specs.Bodies.{bodyAtoms};
+ghost use Rattle.makes.specs.Bodies.{bodyItems};
 use crate::body::Body;
 
-impl Body {
+impl<T: Copy> Body<T> {
     pub fn count(&self) -> usize
-        ensures { λ r. ⌜ r ≡ length (bodyAtoms (now (self .entry))) ⌝ }
+        ensures { λ r. ⌜ r ≡ length (bodyItems (now (self .entry))) ⌝ }
     {
         self.len
     }
 
-    // Atom `i`; none beyond the length.
-    pub fn get(&self, i: usize) -> Option<usize>
-        ensures { λ r. ⌜ r ≡ nth (bodyAtoms (now (self .entry))) i ⌝ }
+    // Item `i`; none beyond the length.
+    pub fn get(&self, i: usize) -> Option<T>
+        ensures { λ r. ⌜ r ≡ nth (bodyItems (now (self .entry))) i ⌝ }
     {
-        if i < self.len {
-            Some(self.atoms[i])
-        } else {
-            None
-        }
+        if i < self.len { Some(self.items[i]) } else { None }
     }
+}
 
-    // A body of these atoms; none where there are more than six.
-    pub fn of(atoms: &[usize]) -> Option<Body>
-        ensures { λ r. ⌜ mapped bodyAtoms r ≡ whenTrue (leb (length (now (atoms .entry))) 6) (now (atoms .entry)) ⌝ }
+impl<T: Copy + Default> Body<T> {
+    // A body of these items; none where there are more than six.
+    pub fn of(items: &[T]) -> Option<Body<T>>
+        ensures { λ r. ⌜ mapped bodyItems r ≡ whenTrue (leb (length (now (items .entry))) 6) (now (items .entry)) ⌝ }
     {
-        if atoms.len() > 6 {
+        if items.len() > 6 {
             return None;
         }
-        let mut places = [0; 6];
-        for (i, atom) in atoms.iter().enumerate() {
-            places[i] = *atom;
+        let mut places = [T::default(); 6];
+        for (i, item) in items.iter().enumerate() {
+            places[i] = *item;
         }
         Some(Body {
-            atoms: places,
-            len: atoms.len(),
+            items: places,
+            len: items.len(),
         })
     }
 }
