@@ -6,7 +6,7 @@ use Rattle.books.specs.declared.fault.Values.{Values}
 use Rattle.books.specs.declared.fault.Values.the-variants.{RuleLiteral}
 use Rattle.books.specs.declared.fault.Refusal.{Refusal}
 use Rattle.books.specs.declared.fault.CheckFault.{CheckFault}
-use Rattle.books.specs.declared.fault.CheckFault.the-variants.{TooLarge, BodyTooLong, HeadMissing, HeadIsReading, LiteralMissing, PositiveOutOfOrder, NegativeOutOfOrder}
+use Rattle.books.specs.declared.fault.CheckFault.the-variants.{TooLarge, BodyTooLong, HeadMissing, HeadIsReading, LiteralMissing, PositiveOutOfOrder, NegativeOutOfOrder, SlotMissing, RuleMissing}
 use Rattle.books.specs.declared.fault.Fault.{Fault}
 use Rattle.books.specs.declared.fault.Fault.the-variants as fault
 
@@ -22,6 +22,8 @@ checkRefusal (HeadIsReading rule) = checkingAt 5 rule 0
 checkRefusal (LiteralMissing rule literal) = checkingAt 4 rule literal
 checkRefusal (PositiveOutOfOrder rule literal) = checkingAt 6 rule literal
 checkRefusal (NegativeOutOfOrder rule literal) = checkingAt 7 rule literal
+checkRefusal (SlotMissing pattern literal) = checkingAt 4 pattern literal
+checkRefusal (RuleMissing rule) = checkingAt 4 rule 0
 
 abbrev pub refusalOf : Fault → Refusal
 refusalOf (fault.Checking f) = checkRefusal f

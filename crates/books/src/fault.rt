@@ -25,7 +25,7 @@ pub struct Refusal {
     pub values: Values,
 }
 
-// What the check refuses. Literals count from 1, positives first.
+// What the check refuses, and the making and striking of books. Literals count from 1, positives first.
 #[derive(Clone, Copy, PartialEq, Eq, Debug)]
 pub enum CheckFault {
     TooLarge,
@@ -35,6 +35,8 @@ pub enum CheckFault {
     LiteralMissing { rule: usize, literal: usize },
     PositiveOutOfOrder { rule: usize, literal: usize },
     NegativeOutOfOrder { rule: usize, literal: usize },
+    SlotMissing { pattern: usize, literal: usize },
+    RuleMissing { rule: usize },
 }
 
 // Every refusal of the product, by layer.
@@ -58,6 +60,8 @@ impl Fault {
                     CheckFault::LiteralMissing { rule, literal } => (4, rule, literal),
                     CheckFault::PositiveOutOfOrder { rule, literal } => (6, rule, literal),
                     CheckFault::NegativeOutOfOrder { rule, literal } => (7, rule, literal),
+                    CheckFault::SlotMissing { pattern, literal } => (4, pattern, literal),
+                    CheckFault::RuleMissing { rule } => (4, rule, 0),
                 };
                 Refusal {
                     layer: Layer::Checking,

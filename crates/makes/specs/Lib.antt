@@ -1,2 +1,3 @@
 pub mod Bodies
 pub mod Flats
+pub mod Strikes

@@ -2,3 +2,4 @@
 pub mod body;
 pub mod flat;
 pub mod rows;
+pub mod struck;
