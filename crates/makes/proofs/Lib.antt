@@ -1,3 +1,5 @@
 pub mod Bodies
+pub mod Instances
 pub mod Lookups
 pub mod Striking
+pub mod Ticks

@@ -1,3 +1,4 @@
 pub mod Bodies
 pub mod Flats
+pub mod Repeats
 pub mod Strikes

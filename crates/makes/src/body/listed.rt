@@ -14,6 +14,13 @@ impl<T: Copy> Body<T> {
         self.len
     }
 
+    pub fn as_slice(&self) -> &[T]
+        ensures { λ r. ⌜ now r ≡ bodyItems (now (self .entry)) ⌝ }
+    {
+        let all = &self.items[..];
+        &all[0..self.len]
+    }
+
     // Item `i`; none beyond the length.
     pub fn get(&self, i: usize) -> Option<T>
         ensures { λ r. ⌜ r ≡ nth (bodyItems (now (self .entry))) i ⌝ }

@@ -1,0 +1,1 @@
+// What a repeating book answers.
