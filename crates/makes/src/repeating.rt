@@ -7,6 +7,7 @@ use crate::patterns::Slot;
 
 mod answers;
 mod making;
+mod numbering;
 
 // Slot s at tick t is atom t × W + s, and pattern p at tick t is rule t × P + p, with W slots and P patterns.
 #[derive(Clone, Copy)]
