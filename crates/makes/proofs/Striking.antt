@@ -106,8 +106,9 @@ module _ {S : Type 0} (before notAfter : S → S → Bool) (m : Meaning S) where
 
     again-same : struck n ≡ true → (k : ℕ) → more k ≡ struck k
     again-same e k = elim (cases-eq k n) [
-        inl same ↦ only k ∙ ap (λ b. b || struck k) (eq-eqb k n same) ∙ sym (ap struck same ∙ e)
-      | inr apart ↦ only k ∙ ap (λ b. b || struck k) (ne-eqb k n apart) ]
+      | inl same ↦ only k ∙ ap (λ b. b || struck k) (eq-eqb k n same) ∙ sym (ap struck same ∙ e)
+      | inr apart ↦ only k ∙ ap (λ b. b || struck k) (ne-eqb k n apart)
+    ]
 
     -- striking a number again changes nothing
     pub struck-again : struck n ≡ true → struckMeaning more m ≡ struckMeaning struck m

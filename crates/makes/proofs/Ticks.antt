@@ -32,13 +32,14 @@ module _ {X Y : Type 0} (f : ℕ → X → Y) (xs : List X) where
   ticks-at zero t s l h = absurd (not-suc-le-zero l)
   ticks-at (suc n) t s l h =
       elim (cases-lt t n) [
-        inl below ↦
-          (let inside : t * length xs + s < length (everyTick f xs n) = omega (arith, mul-add-lt t (length xs) s n below h, ticks-length n) in
-          nth-left (everyTick f xs n) (map (f n) xs) (t * length xs + s) inside ∙ ticks-at n t s below h)
-      | inr last ↦
-          (let same : t ≡ n = omega arith in
-          let place : t * length xs + s ≡ length (everyTick f xs n) + s = ap (λ k. k * length xs + s) same ∙ ap (λ k. k + s) (sym (ticks-length n)) in
-          ap (nth (everyTick f xs (suc n))) place ∙ nth-right (everyTick f xs n) (map (f n) xs) s ∙ nth-map (f n) xs s ∙ ap (λ k. mapped (f k) (nth xs s)) (sym same)) ]
+        | inl below ↦
+            (let inside : t * length xs + s < length (everyTick f xs n) = omega (arith, mul-add-lt t (length xs) s n below h, ticks-length n) in
+            nth-left (everyTick f xs n) (map (f n) xs) (t * length xs + s) inside ∙ ticks-at n t s below h)
+        | inr last ↦
+            (let same : t ≡ n = omega arith in
+            let place : t * length xs + s ≡ length (everyTick f xs n) + s = ap (λ k. k * length xs + s) same ∙ ap (λ k. k + s) (sym (ticks-length n)) in
+            ap (nth (everyTick f xs (suc n))) place ∙ nth-right (everyTick f xs n) (map (f n) xs) s ∙ nth-map (f n) xs s ∙ ap (λ k. mapped (f k) (nth xs s)) (sym same))
+      ]
 
   -- place k is item k mod W of tick k div W
   pub ticks-place : (n k : ℕ) → k < n * length xs → nth (everyTick f xs n) k ≡ mapped (f (k / length xs)) (nth xs (k % length xs))

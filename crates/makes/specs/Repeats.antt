@@ -8,16 +8,12 @@ use Rattle.std.specs.Finite.{nth}
 use Rattle.std.specs.Options.{whenTrue}
 use Rattle.std.specs.declared.option.Option.{Option}
 use Rattle.std.specs.declared.option.Option.the-variants.{Some, None}
-use Rattle.std.specs.declared.result.Result.{Result}
-use Rattle.std.specs.declared.result.Result.the-variants.{Ok, Err}
 use Rattle.stamps.specs.declared.then.Then.{Then}
 use Rattle.stamps.specs.declared.tick.Tick.{Tick}
 use Rattle.books.specs.Meaning.{Rule, Atom, Meaning, bindSome}
 use Rattle.books.specs.Check.{firstBelow}
 use Rattle.books.specs.declared.fault.CheckFault.{CheckFault}
 use Rattle.books.specs.declared.fault.CheckFault.the-variants.{TooLarge, SlotMissing}
-use Rattle.books.specs.declared.fault.Fault.{Fault}
-use Rattle.books.specs.declared.fault.Fault.the-variants.{Checking}
 use Rattle.makes.specs.Bodies.{bodyItems}
 use Rattle.makes.specs.Flats.{ruleBy}
 use Rattle.makes.specs.declared.patterns.Slot.{Slot}
@@ -71,10 +67,10 @@ makingFault slots ticks patterns =
     cond (ltb 1024 (length slots * ticks) || ltb 1024 (length patterns * ticks)) (Some TooLarge)
     (firstBelow (length patterns) (λ k. bindSome (patternFault (length slots) k) (nth patterns k)))
 
--- what a making gives: the book's meaning, or a refusal where there is a fault
-abbrev pub givesUnless : {X : Type 0} → Option CheckFault → X → Result X Fault
-givesUnless None x = Ok x
-givesUnless (Some f) x = Err (Checking f)
+-- what a book means after a making: what was asked for, or what it meant before where that is refused
+abbrev pub madeMeaning : {X : Type 0} → Option CheckFault → X → X → X
+madeMeaning None asked before = asked
+madeMeaning (Some f) asked before = before
 
 -- there is none
 abbrev pub isNone : {X : Type 0} → Option X → Bool

@@ -9,6 +9,8 @@ mod answers;
 mod making;
 mod numbering;
 
+pub use answers::RepeatingBook;
+
 // Slot s at tick t is atom t × W + s, and pattern p at tick t is rule t × P + p, with W slots and P patterns.
 #[derive(Clone, Copy)]
 pub struct Repeating<'a> {

@@ -29,7 +29,10 @@ impl<B: Book> Struck<B> {
     pub fn over(below: B) -> Struck<B>
         ensures { λ r. ⌜ (r .below ≡ below) × (r .words ≡ replicate 16 0) ⌝ }
     {
-        Struck { below, words: [0; 16] }
+        Struck {
+            below,
+            words: [0; 16],
+        }
     }
 
     // Whether the number is struck.
@@ -78,22 +81,42 @@ pub impl<B: Book> Book for Struck<B> as StruckBook {
     }
 
     fn head(&self, rule: usize) -> Option<usize> {
-        if has(&self.words, rule) { None } else { self.below.head(rule) }
+        if has(&self.words, rule) {
+            None
+        } else {
+            self.below.head(rule)
+        }
     }
 
     fn positive_count(&self, rule: usize) -> Option<usize> {
-        if has(&self.words, rule) { None } else { self.below.positive_count(rule) }
+        if has(&self.words, rule) {
+            None
+        } else {
+            self.below.positive_count(rule)
+        }
     }
 
     fn negative_count(&self, rule: usize) -> Option<usize> {
-        if has(&self.words, rule) { None } else { self.below.negative_count(rule) }
+        if has(&self.words, rule) {
+            None
+        } else {
+            self.below.negative_count(rule)
+        }
     }
 
     fn positive(&self, rule: usize, i: usize) -> Option<usize> {
-        if has(&self.words, rule) { None } else { self.below.positive(rule, i) }
+        if has(&self.words, rule) {
+            None
+        } else {
+            self.below.positive(rule, i)
+        }
     }
 
     fn negative(&self, rule: usize, i: usize) -> Option<usize> {
-        if has(&self.words, rule) { None } else { self.below.negative(rule, i) }
+        if has(&self.words, rule) {
+            None
+        } else {
+            self.below.negative(rule, i)
+        }
     }
 }

@@ -5,3 +5,5 @@ mod checks;
 #[cfg(test)]
 mod orders;
 pub mod plain;
+#[cfg(test)]
+mod repeats;

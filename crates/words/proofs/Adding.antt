@@ -27,12 +27,14 @@ lower-bit j d =
 power-bit : (k j : ℕ) → hasBit (2 ^ k) j ≡ eqb j k
 power-bit k j =
     elim (cases-order j k) [
-      inl same ↦ (let one : 2 ^ k / 2 ^ k ≡ 1 = div-self (pow-pos k) in rw (same, one, eq-eqb k k refl) refl)
-    | inr apart ↦ elim apart [
-        inl below ↦
-          (let exponent : k ≡ suc (k - suc j) + j = omega arith in
-          ap (λ e. hasBit (2 ^ e) j) exponent ∙ lower-bit j (k - suc j) ∙ sym (ne-eqb j k (λ e. omega arith)))
-      | inr above ↦ (let gone : 2 ^ k / 2 ^ j ≡ 0 = div-eq-of-lt (pow-below k j above) in rw (gone, ne-eqb j k (λ e. omega arith)) refl) ] ]
+      | inl same ↦ (let one : 2 ^ k / 2 ^ k ≡ 1 = div-self (pow-pos k) in rw (same, one, eq-eqb k k refl) refl)
+      | inr apart ↦ elim apart [
+        | inl below ↦
+            (let exponent : k ≡ suc (k - suc j) + j = omega arith in
+            ap (λ e. hasBit (2 ^ e) j) exponent ∙ lower-bit j (k - suc j) ∙ sym (ne-eqb j k (λ e. omega arith)))
+        | inr above ↦ (let gone : 2 ^ k / 2 ^ j ≡ 0 = div-eq-of-lt (pow-below k j above) in rw (gone, ne-eqb j k (λ e. omega arith)) refl)
+      ]
+    ]
 
 or-small : (x y : ℕ) → x < 2 → y < 2 → eqb (bitOr x y) 1 ≡ (eqb y 1 || eqb x 1)
 or-small zero zero h l = refl
@@ -51,22 +53,24 @@ with-bit w k j =
 -- two numbers of one word are equal where their bits are
 same-word : (k n : ℕ) → k / 64 ≡ n / 64 → eqb (k % 64) (n % 64) ≡ eqb k n
 same-word k n e = elim (cases-eq k n) [
-    inl same ↦ ap (λ x. eqb (x % 64) (n % 64)) same ∙ eq-eqb (n % 64) (n % 64) refl ∙ sym (eq-eqb k n same)
-  | inr apart ↦ ne-eqb (k % 64) (n % 64) (λ bits. apart (omega (arith, div-add-mod' k 64, div-add-mod' n 64))) ∙ sym (ne-eqb k n apart) ]
+  | inl same ↦ ap (λ x. eqb (x % 64) (n % 64)) same ∙ eq-eqb (n % 64) (n % 64) refl ∙ sym (eq-eqb k n same)
+  | inr apart ↦ ne-eqb (k % 64) (n % 64) (λ bits. apart (omega (arith, div-add-mod' k 64, div-add-mod' n 64))) ∙ sym (ne-eqb k n apart)
+]
 
 pub with-number : (ws : List ℕ) (n : ℕ) → n / 64 < length ws → (k : ℕ) → hasNumber (withNumber ws n) k ≡ (eqb k n || hasNumber ws k)
 with-number ws n l k =
     let word : ℕ = bitOr (getD ws (n / 64) 0) (2 ^ (n % 64)) in
     elim (cases-eq (k / 64) (n / 64)) [
-      inl same ↦
-        ap (λ i. hasBit (getD (set ws (n / 64) word) i 0) (k % 64)) same
-        ∙ ap (λ w. hasBit w (k % 64)) (getD-set-same ws (n / 64) word 0 l)
-        ∙ with-bit (getD ws (n / 64) 0) (n % 64) (k % 64)
-        ∙ ap (λ b. b || hasBit (getD ws (n / 64) 0) (k % 64)) (same-word k n same)
-        ∙ ap (λ i. eqb k n || hasBit (getD ws i 0) (k % 64)) (sym same)
-    | inr apart ↦
-        ap (λ w. hasBit w (k % 64)) (getD-set-other ws (n / 64) (k / 64) word 0 apart)
-        ∙ ap (λ b. b || hasNumber ws k) (sym (ne-eqb k n (λ e. apart (ap (λ x. x / 64) e)))) ]
+      | inl same ↦
+          ap (λ i. hasBit (getD (set ws (n / 64) word) i 0) (k % 64)) same
+          ∙ ap (λ w. hasBit w (k % 64)) (getD-set-same ws (n / 64) word 0 l)
+          ∙ with-bit (getD ws (n / 64) 0) (n % 64) (k % 64)
+          ∙ ap (λ b. b || hasBit (getD ws (n / 64) 0) (k % 64)) (same-word k n same)
+          ∙ ap (λ i. eqb k n || hasBit (getD ws i 0) (k % 64)) (sym same)
+      | inr apart ↦
+          ap (λ w. hasBit w (k % 64)) (getD-set-other ws (n / 64) (k / 64) word 0 apart)
+          ∙ ap (λ b. b || hasNumber ws k) (sym (ne-eqb k n (λ e. apart (ap (λ x. x / 64) e))))
+    ]
 
 -- a number beyond the words is not in the set, and leaves it as it is
 pub beyond-not : (ws : List ℕ) (n : ℕ) → length ws ≤ n / 64 → hasNumber ws n ≡ false

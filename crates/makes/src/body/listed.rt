@@ -25,7 +25,11 @@ impl<T: Copy> Body<T> {
     pub fn get(&self, i: usize) -> Option<T>
         ensures { λ r. ⌜ r ≡ nth (bodyItems (now (self .entry))) i ⌝ }
     {
-        if i < self.len { Some(self.items[i]) } else { None }
+        if i < self.len {
+            Some(self.items[i])
+        } else {
+            None
+        }
     }
 }
 

@@ -28,7 +28,10 @@ fn atom_row(book: &Repeating<'_>, atom: usize) -> Option<AtomRow<Then<Tick, Tick
     let slot = book.slots[atom % width];
     let first = Tick((atom / width) as u32);
     let second = Tick(u32::from(slot.stage));
-    Some(AtomRow { stamp: Then { first, second }, reading: slot.reading })
+    Some(AtomRow {
+        stamp: Then { first, second },
+        reading: slot.reading,
+    })
 }
 
 // A pattern at its tick, where it is not vacant.

@@ -2,14 +2,14 @@
 ghost use denote.Ref.{now as seen};
 ghost use lib.Dec.{leb};
 ghost use lib.ListN.{length};
+ghost use mathlib.Core.List.{[]};
 ghost use mathlib.Core.Path.{_≡_};
 ghost use Prim.Native.Nat.{_*_, _≤_, _<_};
 ghost use Rattle.std.specs.Finite.{nth};
-ghost use Rattle.std.specs.Results.{mapped};
 ghost use Rattle.books.specs.Check.{firstBelow, unless};
 ghost use Rattle.books.specs.Meaning.{bindSome};
 ghost use Rattle.makes.specs.Bodies.{bodyItems};
-ghost use Rattle.makes.specs.Repeats.{stepFault, steps, patternFault, makingFault, givesUnless, repeatingMeaning};
+ghost use Rattle.makes.specs.Repeats.{stepFault, steps, patternFault, makingFault, madeMeaning, repeatingMeaning};
 use crate::patterns::Pattern;
 use crate::patterns::Slot;
 use crate::patterns::Step;
@@ -50,7 +50,10 @@ fn check_step(pattern: &Pattern, width: usize, number: usize, index: usize) -> R
     };
     if step.slot >= width || step.back > 3 {
         let literal = index + 1;
-        return Err(Fault::Checking(CheckFault::SlotMissing { pattern: number, literal }));
+        return Err(Fault::Checking(CheckFault::SlotMissing {
+            pattern: number,
+            literal,
+        }));
     }
     Ok(())
 }
@@ -71,9 +74,17 @@ fn check_pattern(pattern: &Pattern, width: usize, number: usize) -> Result<(), F
     ensures { λ r. ⌜ r ≡ unless (patternFault width number (now (pattern .entry))) ⌝ }
 {
     if pattern.head >= width {
-        return Err(Fault::Checking(CheckFault::SlotMissing { pattern: number, literal: 0 }));
+        return Err(Fault::Checking(CheckFault::SlotMissing {
+            pattern: number,
+            literal: 0,
+        }));
     }
-    check_steps(pattern, width, number, pattern.positives.count() + pattern.negatives.count())
+    check_steps(
+        pattern,
+        width,
+        number,
+        pattern.positives.count() + pattern.negatives.count(),
+    )
 }
 
 // The patterns in order, up to the first fault.
@@ -87,14 +98,31 @@ fn check_patterns(patterns: &[Pattern], width: usize) -> Result<(), Fault>
 }
 
 impl<'a> Repeating<'a> {
-    // The book of these tables over so many ticks.
-    pub fn make(slots: &'a [Slot], ticks: usize, patterns: &'a [Pattern]) -> Result<Repeating<'a>, Fault>
-        ensures { λ r. ⌜ mapped (λ b. repeatingMeaning (seen (b .slots)) (b .ticks) (seen (b .patterns))) (λ f. f) r ≡ givesUnless (makingFault (now (slots .entry)) ticks (now (patterns .entry))) (repeatingMeaning (now (slots .entry)) ticks (now (patterns .entry))) ⌝ }
+    // The book without slots, patterns and ticks.
+    pub fn empty() -> Repeating<'a>
+        ensures { λ r. ⌜ repeatingMeaning (seen (r .slots)) (r .ticks) (seen (r .patterns)) ≡ repeatingMeaning [] 0 [] ⌝ }
+    {
+        Repeating {
+            slots: &[],
+            ticks: 0,
+            patterns: &[],
+        }
+    }
+
+    // Makes this the book of these tables over so many ticks; a refusal leaves it as it was.
+    pub fn make(&mut self, slots: &'a [Slot], ticks: usize, patterns: &'a [Pattern]) -> Result<(), Fault>
+        ensures answer { λ r. ⌜ r ≡ unless (makingFault (now (slots .entry)) ticks (now (patterns .entry))) ⌝ }
+        ensures meaning { λ _. ⌜ repeatingMeaning (seen (now (self .exit) .slots)) (now (self .exit) .ticks) (seen (now (self .exit) .patterns)) ≡ madeMeaning (makingFault (now (slots .entry)) ticks (now (patterns .entry))) (repeatingMeaning (now (slots .entry)) ticks (now (patterns .entry))) (repeatingMeaning (seen (now (self .entry) .slots)) (now (self .entry) .ticks) (seen (now (self .entry) .patterns))) ⌝ }
     {
         if !is_within(slots.len(), ticks) || !is_within(patterns.len(), ticks) {
             return Err(Fault::Checking(CheckFault::TooLarge));
         }
         check_patterns(patterns, slots.len())?;
-        Ok(Repeating { slots, ticks, patterns })
+        *self = Repeating {
+            slots,
+            ticks,
+            patterns,
+        };
+        Ok(())
     }
 }

@@ -31,11 +31,12 @@ loop-i-again c =
     let i = c .loop-i .i in
     let f : Step → ℕ = atomBack (c .args .width) (c .args .tick) in
     let atom : ℕ = f (getD steps i no-step) in
-    let room : i < length atoms = omega arith in
-    (simp length-set (c .loop-i .inv .0),
-        take-more-set atoms i atom room
-        ∙ ap (λ t. t ++ (atom ∷ [])) (c .loop-i .inv .1)
-        ∙ sym (ap (map f) (take-more steps i no-step (c .loop-i-test .taken)) ∙ map-append f (take i steps) (getD steps i no-step ∷ [])))
+    let room : i < length atoms = omega arith in (
+      simp length-set (c .loop-i .inv .0),
+      take-more-set atoms i atom room
+          ∙ ap (λ t. t ++ (atom ∷ [])) (c .loop-i .inv .1)
+          ∙ sym (ap (map f) (take-more steps i no-step (c .loop-i-test .taken)) ∙ map-append f (take i steps) (getD steps i no-step ∷ [])),
+    )
 
 pub returns : need.returns
 returns c =
@@ -43,6 +44,6 @@ returns c =
     let f : Step → ℕ = atomBack (c .args .width) (c .args .tick) in
     let count : length steps - 0 ≡ c .loop-i .i = omega arith in
     let part : take (length steps - 0) (c .loop-i .atoms) ≡ map f steps =
-      ap (λ n. take n (c .loop-i .atoms)) count ∙ c .loop-i .inv .1 ∙ ap (map f) (take-all (c .loop-i .i) steps (c .loop-i-test .left)) in
+    ap (λ n. take n (c .loop-i .atoms)) count ∙ c .loop-i .inv .1 ∙ ap (map f) (take-all (c .loop-i .i) steps (c .loop-i-test .left)) in
     let few : length (map f steps) ≤ 6 = simp length-map (c .pre .few) in
     c .of .ensures ∙ ap (λ xs. whenTrue (leb (length xs) 6) xs) part ∙ ap (λ b. whenTrue b (map f steps)) (le-leb (length (map f steps)) 6 few)

@@ -16,12 +16,13 @@ loop-i-again g c =
     let places = c .loop-i .places in
     let i = c .loop-i .i in
     let item = c .index-items-i .result in
-    let room : i < length places = omega arith in
-    (simp length-set (c .loop-i .inv .0),
-        take-more-set places i item room
-        ∙ ap (λ t. t ++ (item ∷ [])) (c .loop-i .inv .1)
-        ∙ ap (λ x. take i items ++ (x ∷ [])) (c .index-items-i .is)
-        ∙ sym (take-more items i item (c .loop-i-test .taken)))
+    let room : i < length places = omega arith in (
+      simp length-set (c .loop-i .inv .0),
+      take-more-set places i item room
+          ∙ ap (λ t. t ++ (item ∷ [])) (c .loop-i .inv .1)
+          ∙ ap (λ x. take i items ++ (x ∷ [])) (c .index-items-i .is)
+          ∙ sym (take-more items i item (c .loop-i-test .taken)),
+    )
 
 pub returns : need.returns
 returns g c =
