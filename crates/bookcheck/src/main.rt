@@ -1,4 +1,4 @@
-// Checks a small aisle book rule by rule, and then the same book with one rule broken.
+// Checks a small aisle book rule by rule, then the same book with one rule broken, and then as a repeating book with a rule struck.
 mod lines;
 
 use books::book::Book;
@@ -7,10 +7,21 @@ use books::check::check_rule;
 use books::fault::RefusalDisplay;
 use lines::RuleLine;
 use lines::RuleLineDisplay;
+use makes::body::Body;
 use makes::flat::Flat;
 use makes::flat::FlatBook;
+use makes::patterns::Pattern;
+use makes::patterns::Slot;
+use makes::patterns::Step;
+use makes::patterns::StepDefault;
+use makes::repeating::Repeating;
+use makes::repeating::RepeatingBook;
 use makes::rows::AtomRow;
 use makes::rows::RuleRow;
+use makes::struck::Struck;
+use makes::struck::StruckBook;
+use stamps::then::ThenDisplay;
+use stamps::then::ThenOrder;
 use stamps::tick::Tick;
 use stamps::tick::TickDisplay;
 use stamps::tick::TickOrder;
@@ -72,7 +83,7 @@ where
     Ok(())
 }
 
-fn run(rt: &LibcRuntime) -> Result<(), AnyError> {
+fn flat(rt: &LibcRuntime) -> Result<(), AnyError> {
     let atoms = [
         reading(1),
         reading(2),
@@ -111,6 +122,79 @@ fn run(rt: &LibcRuntime) -> Result<(), AnyError> {
         },
         &NAMES,
     )
+}
+
+fn slot(reading: bool, stage: u8) -> Slot {
+    Slot { reading, stage }
+}
+
+// A step of the same tick, or of the tick before.
+fn now(slot: usize) -> Step {
+    Step { slot, back: 0 }
+}
+
+fn before(slot: usize) -> Step {
+    Step { slot, back: 1 }
+}
+
+fn pattern(head: usize, positives: &[Step], negatives: &[Step]) -> Option<Pattern> {
+    Some(Pattern {
+        head,
+        positives: Body::of(positives)?,
+        negatives: Body::of(negatives)?,
+    })
+}
+
+// The same situation every tick: the grant leans on no closure one tick back.
+fn patterns() -> Option<[Pattern; 5]> {
+    Some([
+        pattern(2, &[now(1)], &[])?,
+        pattern(3, &[now(0)], &[before(2)])?,
+        pattern(4, &[now(0), now(2)], &[])?,
+        pattern(5, &[now(4)], &[])?,
+        pattern(4, &[now(5)], &[])?,
+    ])
+}
+
+// Makes the book over 2 ticks, strikes a rule of it, and shows both.
+fn repeating<'a>(
+    rt: &LibcRuntime,
+    slots: &'a [Slot],
+    patterns: &'a [Pattern],
+) -> Result<(), AnyError> {
+    let mut book = Repeating::empty();
+    if let Err(fault) = book.make(slots, 2, patterns) {
+        println!(rt, "{}", fault.refusal())?;
+        return Ok(());
+    }
+    println!(rt, "the same situation every tick, over 2 ticks")?;
+    show(rt, &book, &NAMES)?;
+    let mut struck = Struck::over(book);
+    println!(rt, "striking rule 9")?;
+    if let Err(fault) = struck.strike(9) {
+        println!(rt, "{}", fault.refusal())?;
+    }
+    println!(rt, "striking rule 10")?;
+    if let Err(fault) = struck.strike(10) {
+        println!(rt, "{}", fault.refusal())?;
+    }
+    show(rt, &struck, &NAMES)
+}
+
+fn run(rt: &LibcRuntime) -> Result<(), AnyError> {
+    flat(rt)?;
+    let slots = [
+        slot(true, 0),
+        slot(true, 0),
+        slot(false, 1),
+        slot(false, 2),
+        slot(false, 2),
+        slot(false, 2),
+    ];
+    match patterns() {
+        Some(patterns) => repeating(rt, &slots, &patterns),
+        None => Err("a list has more than six steps".into()),
+    }
 }
 
 fn main(rt: LibcRuntime) -> Result<(), AnyError> {

@@ -59,7 +59,11 @@ const READING: Slot = Slot {
 };
 
 // What making these tables is refused with; none where the book is made.
-fn made<'a>(slots: &'a [Slot], ticks: usize, patterns: &'a [Pattern]) -> Option<(u8, usize, usize)> {
+fn made<'a>(
+    slots: &'a [Slot],
+    ticks: usize,
+    patterns: &'a [Pattern],
+) -> Option<(u8, usize, usize)> {
     let mut book = Repeating::empty();
     match book.make(slots, ticks, patterns) {
         Ok(()) => None,
@@ -230,7 +234,10 @@ fn steps_reach_three_ticks_back() -> Result<(), Fail> {
 }
 
 // What the check tells of these tables over 3 ticks, after a making over more ticks was refused.
-fn told_after_refusal<'a>(slots: &'a [Slot], patterns: &'a [Pattern]) -> Result<Option<(u8, usize, usize)>, Fail> {
+fn told_after_refusal<'a>(
+    slots: &'a [Slot],
+    patterns: &'a [Pattern],
+) -> Result<Option<(u8, usize, usize)>, Fail> {
     let mut book = Repeating::empty();
     book.make(slots, 3, patterns)?;
     check(book.make(slots, 1024, patterns).is_err())?;
@@ -240,9 +247,18 @@ fn told_after_refusal<'a>(slots: &'a [Slot], patterns: &'a [Pattern]) -> Result<
 #[test]
 fn a_repeating_book_may_fail_the_check() -> Result<(), Fail> {
     let slots = [READING, PLAIN];
-    check_eq(told_after_refusal(&slots, &[pattern(1, &[], &[step(1, 0)])?])?, Some((7, 0, 1)))?;
-    check_eq(told_after_refusal(&slots, &[pattern(0, &[], &[])?])?, Some((5, 0, 0)))?;
-    check_eq(told_after_refusal(&slots, &[pattern(1, &[], &[step(1, 1)])?])?, None)
+    check_eq(
+        told_after_refusal(&slots, &[pattern(1, &[], &[step(1, 0)])?])?,
+        Some((7, 0, 1)),
+    )?;
+    check_eq(
+        told_after_refusal(&slots, &[pattern(0, &[], &[])?])?,
+        Some((5, 0, 0)),
+    )?;
+    check_eq(
+        told_after_refusal(&slots, &[pattern(1, &[], &[step(1, 1)])?])?,
+        None,
+    )
 }
 
 #[test]

@@ -110,7 +110,12 @@ impl<'a> Repeating<'a> {
     }
 
     // Makes this the book of these tables over so many ticks; a refusal leaves it as it was.
-    pub fn make(&mut self, slots: &'a [Slot], ticks: usize, patterns: &'a [Pattern]) -> Result<(), Fault>
+    pub fn make(
+        &mut self,
+        slots: &'a [Slot],
+        ticks: usize,
+        patterns: &'a [Pattern],
+    ) -> Result<(), Fault>
         ensures answer { λ r. ⌜ r ≡ unless (makingFault (now (slots .entry)) ticks (now (patterns .entry))) ⌝ }
         ensures meaning { λ _. ⌜ repeatingMeaning (seen (now (self .exit) .slots)) (now (self .exit) .ticks) (seen (now (self .exit) .patterns)) ≡ madeMeaning (makingFault (now (slots .entry)) ticks (now (patterns .entry))) (repeatingMeaning (now (slots .entry)) ticks (now (patterns .entry))) (repeatingMeaning (seen (now (self .entry) .slots)) (now (self .entry) .ticks) (seen (now (self .entry) .patterns))) ⌝ }
     {
