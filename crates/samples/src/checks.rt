@@ -15,7 +15,7 @@ use stamps::tick::TickOrder;
 use std::test::*;
 
 // The refusal's number, rule and literal; none where the book passes.
-pub fn told<B: Book>(book: &B) -> Option<(u8, usize, usize)> {
+pub(crate) fn told<B: Book>(book: &B) -> Option<(u8, usize, usize)> {
     match check(book) {
         Ok(()) => None,
         Err(fault) => {
