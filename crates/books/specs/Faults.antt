@@ -3,8 +3,10 @@ use Prim.Native.Nat.{ℕ}
 use Rattle.books.specs.declared.fault.Layer.{Layer}
 use Rattle.books.specs.declared.fault.Layer.the-variants.{Reading, Checking, Running}
 use Rattle.books.specs.declared.fault.Values.{Values}
-use Rattle.books.specs.declared.fault.Values.the-variants.{RuleLiteral}
+use Rattle.books.specs.declared.fault.Values.the-variants.{One, RuleLiteral}
 use Rattle.books.specs.declared.fault.Refusal.{Refusal}
+use Rattle.books.specs.declared.fault.ReadFault.{ReadFault}
+use Rattle.books.specs.declared.fault.ReadFault.the-variants.{Byte, Number, TooMany, AtomMissing}
 use Rattle.books.specs.declared.fault.CheckFault.{CheckFault}
 use Rattle.books.specs.declared.fault.CheckFault.the-variants.{TooLarge, BodyTooLong, HeadMissing, HeadIsReading, LiteralMissing, PositiveOutOfOrder, NegativeOutOfOrder}
 use Rattle.books.specs.declared.fault.Fault.{Fault}
@@ -23,5 +25,16 @@ checkRefusal (LiteralMissing rule literal) = checkingAt 4 rule literal
 checkRefusal (PositiveOutOfOrder rule literal) = checkingAt 6 rule literal
 checkRefusal (NegativeOutOfOrder rule literal) = checkingAt 7 rule literal
 
+-- a refusal of the reader, with what it names
+abbrev pub readingAt : ℕ → Values → Refusal
+readingAt number values = record { layer = Reading; number = number; values = values }
+
+abbrev pub readRefusal : ReadFault → Refusal
+readRefusal (Byte place) = readingAt 1 (One place)
+readRefusal (Number place) = readingAt 2 (One place)
+readRefusal (TooMany place) = readingAt 3 (One place)
+readRefusal (AtomMissing rule literal) = readingAt 4 (RuleLiteral rule literal)
+
 abbrev pub refusalOf : Fault → Refusal
+refusalOf (fault.Reading f) = readRefusal f
 refusalOf (fault.Checking f) = checkRefusal f

@@ -13,6 +13,7 @@ pub enum Layer {
 // What comes back with a refusal's number.
 #[derive(Clone, Copy, PartialEq, Eq, Debug)]
 pub enum Values {
+    One(usize),
     RuleLiteral(usize, usize),
 }
 
@@ -22,6 +23,15 @@ pub struct Refusal {
     pub layer: Layer,
     pub number: u8,
     pub values: Values,
+}
+
+// What the reader of a text refuses. Places count bytes from 0; a rule's head is literal 0.
+#[derive(Clone, Copy, PartialEq, Eq, Debug)]
+pub enum ReadFault {
+    Byte { place: usize },
+    Number { place: usize },
+    TooMany { place: usize },
+    AtomMissing { rule: usize, literal: usize },
 }
 
 // What the check refuses. Literals count from 1, positives first.
@@ -39,6 +49,7 @@ pub enum CheckFault {
 // Every refusal of the product, by layer.
 #[derive(Clone, Copy, PartialEq, Eq, Debug)]
 pub enum Fault {
+    Reading(ReadFault),
     Checking(CheckFault),
 }
 
@@ -48,6 +59,19 @@ impl Fault {
         ensures { λ r. ⌜ r ≡ refusalOf (now (self .entry)) ⌝ }
     {
         match self {
+            Fault::Reading(fault) => {
+                let (number, values) = match *fault {
+                    ReadFault::Byte { place } => (1, Values::One(place)),
+                    ReadFault::Number { place } => (2, Values::One(place)),
+                    ReadFault::TooMany { place } => (3, Values::One(place)),
+                    ReadFault::AtomMissing { rule, literal } => (4, Values::RuleLiteral(rule, literal)),
+                };
+                Refusal {
+                    layer: Layer::Reading,
+                    number,
+                    values,
+                }
+            }
             Fault::Checking(fault) => {
                 let (number, rule, literal) = match *fault {
                     CheckFault::TooLarge => (3, 0, 0),
