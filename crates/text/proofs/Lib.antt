@@ -1,0 +1,3 @@
+pub mod Turned
+pub mod Digits
+pub mod Worded

@@ -1,0 +1,6 @@
+pub mod Bytes
+pub mod Turns
+pub mod Numbers
+pub mod Lists
+pub mod Words
+pub mod Stamps

@@ -1,0 +1,143 @@
+// Stamps that have a word: how a text names their kind, and how it writes them.
+ghost use mathlib.Core.List.{List};
+ghost use mathlib.Core.Path.{_≡_};
+ghost use Prim.Native.Nat.{ℕ};
+ghost use Rattle.std.specs.declared.result.Result.{Result as Answer};
+ghost use Rattle.books.specs.declared.fault.Fault.{Fault as Refused};
+ghost use Rattle.text.specs.Stamps.{tickAt, pairAt, routeAt, tickWord, routeWord, thenWord, oneAisle, aislesAt};
+use crate::bytes::pass;
+use crate::bytes::wrong;
+use crate::lists::list_onward;
+use crate::lists::open_list;
+use crate::numbers::MAX_NUMBER;
+use crate::numbers::number;
+use books::fault::Fault;
+use stamps::order::Order;
+use stamps::route::Route;
+use stamps::route::RouteOrder;
+use stamps::then::Then;
+use stamps::then::ThenOrder;
+use stamps::tick::Tick;
+use stamps::tick::TickOrder;
+
+// The highest aisle of a route.
+const MAX_AISLE: u64 = 63;
+
+// A kind of stamp that a text can hold.
+pub trait Spelled: Order {
+    // What follows the word of the order form.
+    ghost spelling: { List ℕ };
+
+    // The stamp at a place of a text, and the place after it.
+    ghost stampAt: { List ℕ → ℕ → Answer (Self × ℕ) Refused };
+
+    fn word() -> &'static [u8]
+        ensures { λ r. ⌜ now r ≡ spelling ⌝ };
+
+    fn stamp(text: &[u8], at: usize) -> Result<(Self, usize), Fault>
+        ensures { λ r. ⌜ r ≡ stampAt (now (text .entry)) at ⌝ };
+}
+
+fn tick(text: &[u8], at: usize) -> Result<(Tick, usize), Fault>
+    ensures { λ r. ⌜ r ≡ tickAt (now (text .entry)) at ⌝ }
+{
+    let (value, next) = number(text, at, MAX_NUMBER)?;
+    Ok((Tick(value as u32), next))
+}
+
+pub impl Spelled for Tick as TickSpelled {
+    ghost spelling = { tickWord };
+
+    ghost stampAt = { tickAt };
+
+    fn word() -> &'static [u8] {
+        b"tick"
+    }
+
+    fn stamp(text: &[u8], at: usize) -> Result<(Tick, usize), Fault> {
+        tick(text, at)
+    }
+}
+
+pub impl Spelled for Then<Tick, Tick> as ThenSpelled {
+    ghost spelling = { thenWord };
+
+    ghost stampAt = { pairAt };
+
+    fn word() -> &'static [u8] {
+        b"then"
+    }
+
+    fn stamp(text: &[u8], at: usize) -> Result<(Then<Tick, Tick>, usize), Fault> {
+        let at = pass(text, at, b'(')?;
+        let (first, at) = tick(text, at)?;
+        let at = pass(text, at, b' ')?;
+        let (second, at) = tick(text, at)?;
+        let next = pass(text, at, b')')?;
+        Ok((Then { first, second }, next))
+    }
+}
+
+// The aisles of a route so far: the next one is not below `least`.
+#[derive(Clone, Copy)]
+pub struct Aisles {
+    aisles: u64,
+    least: u64,
+    more: bool,
+    next: usize,
+}
+
+// One more aisle, if one follows.
+fn one_aisle(text: &[u8], so_far: Aisles) -> Result<Aisles, Fault>
+    ensures { λ r. ⌜ r ≡ oneAisle (now (text .entry)) «so_far» ⌝ }
+{
+    if !so_far.more {
+        return Ok(so_far);
+    }
+    let (aisle, after) = number(text, so_far.next, MAX_AISLE)?;
+    if aisle < so_far.least {
+        return wrong(so_far.next);
+    }
+    let (more, next) = list_onward(text, after)?;
+    Ok(Aisles {
+        aisles: so_far.aisles | 1 << aisle,
+        least: aisle + 1,
+        more,
+        next,
+    })
+}
+
+// The aisles of a list whose opening is passed.
+fn rising(text: &[u8], more: bool, next: usize) -> Result<Aisles, Fault>
+    ensures { λ r. ⌜ r ≡ aislesAt (now (text .entry)) (more, next) ⌝ }
+{
+    let mut so_far = Aisles {
+        aisles: 0,
+        least: 0,
+        more,
+        next,
+    };
+    for _turn in 0..MAX_TURNS {
+        so_far = one_aisle(text, so_far)?;
+    }
+    Ok(so_far)
+}
+
+// Of aisles that rise, a list has 64 at most, and the 65th is refused.
+const MAX_TURNS: usize = 65;
+
+pub impl Spelled for Route as RouteSpelled {
+    ghost spelling = { routeWord };
+
+    ghost stampAt = { routeAt };
+
+    fn word() -> &'static [u8] {
+        b"route"
+    }
+
+    fn stamp(text: &[u8], at: usize) -> Result<(Route, usize), Fault> {
+        let (more, next) = open_list(text, at)?;
+        let list = rising(text, more, next)?;
+        Ok((Route { aisles: list.aisles }, list.next))
+    }
+}
