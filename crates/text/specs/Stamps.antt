@@ -40,9 +40,13 @@ oneAisle text s =
     (λ q. Ok (record { aisles = bitOr (s .aisles) (2 ^ p .0); least = p .0 + 1; more = q .0; next = q .1 })))))
     (Ok s)
 
+-- no aisle is read
+abbrev pub noAisle : Bool × ℕ → Aisles
+noAisle q = record { aisles = 0; least = 0; more = q .0; next = q .1 }
+
 -- the aisles of a list, which are 64 at most since they rise; the 65th is refused
 unfoldable pub aislesAt : List ℕ → Bool × ℕ → Result Aisles Fault
-aislesAt text q = tries (oneAisle text) (record { aisles = 0; least = 0; more = q .0; next = q .1 }) 65
+aislesAt text q = tries (oneAisle text) (noAisle q) 65
 
 -- a route is the list of its aisles
 abbrev pub routeAt : List ℕ → ℕ → Result (Route × ℕ) Fault
