@@ -4,3 +4,4 @@ pub mod Numbers
 pub mod Lists
 pub mod Words
 pub mod Stamps
+pub mod Kinds
