@@ -1,3 +1,4 @@
 pub mod Turned
 pub mod Digits
 pub mod Worded
+pub mod Bodied

@@ -22,6 +22,7 @@ module _ (word text : List ℕ) (next i : ℕ) (h : i < length word) where
   AtByte = agreesTo (drop i word) text next ≡ cond (isByte (getD word i 0) (nth text next)) (agreesTo (drop (i + 1) word) text (next + 1)) next
 
   at-byte : AtByte
+  unfolding agreesTo
   at-byte = at-drop-more (λ w. agreesTo w text next) word i 0 h
 
   pub agrees-more : Some (getD word i 0) ≡ nth text next → agreesTo (drop i word) text next ≡ agreesTo (drop (i + 1) word) text (next + 1)
@@ -31,6 +32,7 @@ module _ (word text : List ℕ) (next i : ℕ) (h : i < length word) where
   agrees-no-more e = sym (at-byte ∙ ap (λ b. cond b (agreesTo (drop (i + 1) word) text (next + 1)) next) e)
 
   passes : passWord (drop i word) text next ≡ andThen (passAt (getD word i 0) text next) (passWord (drop (i + 1) word) text)
+  unfolding passWord
   passes = at-drop-more (λ w. passWord w text next) word i 0 h
 
   pub passes-more : (r : Result ℕ Fault) → r ≡ passAt (getD word i 0) text next → passWord (drop i word) text next ≡ andThen r (passWord (drop (i + 1) word) text)

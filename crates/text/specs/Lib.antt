@@ -5,3 +5,5 @@ pub mod Lists
 pub mod Words
 pub mod Stamps
 pub mod Kinds
+pub mod Rules
+pub mod Forms

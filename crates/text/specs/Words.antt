@@ -1,9 +1,8 @@
 -- Words that stand in a text as they are.
 use Prim.Native.Nat.{ℕ, _+_}
-use mathlib.Core.Bool.{Bool, true, false, cond, _&&_}
+use mathlib.Core.Bool.{Bool, true, false, cond}
 use mathlib.Core.List.{List, [], _∷_}
 use lib.Dec.{eqb}
-use lib.ListN.{drop}
 use Rattle.std.specs.Finite.{nth}
 use Rattle.std.specs.declared.option.Option.{Option}
 use Rattle.std.specs.declared.option.Option.the-variants.{Some, None}
@@ -13,7 +12,7 @@ use Rattle.books.specs.declared.fault.Fault.{Fault}
 use Rattle.text.specs.Bytes.{andThen, passAt}
 
 -- passes over the bytes of a word
-abbrev pub passWord : List ℕ → List ℕ → ℕ → Result ℕ Fault
+unfoldable pub passWord : List ℕ → List ℕ → ℕ → Result ℕ Fault
 passWord [] text at = Ok at
 passWord (b ∷ word) text at = andThen (passAt b text at) (passWord word text)
 
@@ -23,11 +22,6 @@ isByte byte None = false
 isByte byte (Some b) = eqb b byte
 
 -- the place up to which the text agrees with a word
-abbrev pub agreesTo : List ℕ → List ℕ → ℕ → ℕ
+unfoldable pub agreesTo : List ℕ → List ℕ → ℕ → ℕ
 agreesTo [] text at = at
 agreesTo (b ∷ word) text at = cond (isByte b (nth text at)) (agreesTo word text (at + 1)) at
-
--- whether the word stands at the place
-abbrev pub stands : List ℕ → List ℕ → ℕ → Bool
-stands [] text at = true
-stands (b ∷ word) text at = isByte b (nth text at) && stands word text (at + 1)

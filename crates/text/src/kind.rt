@@ -25,3 +25,10 @@ fn told(line: &[u8]) -> Option<Kind>
         _ => None,
     }
 }
+
+// The kind of form that begins at a place, if one does.
+pub fn kind_at(text: &[u8], at: usize) -> Option<Kind>
+    ensures { λ r. ⌜ r ≡ kindOf (drop at (now (text .entry))) ⌝ }
+{
+    if at < text.len() { told(&text[at..]) } else { None }
+}

@@ -23,6 +23,7 @@ loop-byte-again c =
     sym (agrees-more (c .args .word .now) (c .args .text .now) (l .next) (l .byte-index) (c .loop-byte-test .taken) (ap Some (sym (c .if-found-byte .taken)) ∙ c .in-Some .ensures tt .value)) ∙ l .inv
 
 pub returns : need.returns
+unfolding agreesTo
 returns c =
     let l = c .loop-byte in
     sym (at-drop-all (λ w. agreesTo w (c .args .text .now) (l .next)) (c .args .word .now) (l .byte-index) (c .loop-byte-test .left)) ∙ l .inv

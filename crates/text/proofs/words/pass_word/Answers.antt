@@ -20,6 +20,7 @@ loop-byte-again c =
     sym more ∙ l .inv
 
 pub returns : need.returns
+unfolding passWord
 returns c =
     let l = c .loop-byte in
     sym (at-drop-all (λ w. passWord w (c .args .text .now) (l .next)) (c .args .word .now) (l .byte-index) (c .loop-byte-test .left)) ∙ l .inv
