@@ -31,17 +31,17 @@ use Rattle.text.specs.declared.form.Form.the-variants as form
 
 -- what one form says
 pub data Line (S : Type 0) : Type 0 where
-  order : Line S
-  atom : Atom S → Line S
-  rule : Option Rule → Line S
-  end : Line S
+  orderLine : Line S
+  atomLine : Atom S → Line S
+  ruleLine : Option Rule → Line S
+  endLine : Line S
 
 -- a form that was read, by what it says
 abbrev pub lineOf : {S : Type 0} → Form S → Line S
-lineOf form.Order = order
-lineOf (form.Atom row) = atom (atomOf row)
-lineOf (form.Rule row) = rule (mapped ruleOf row)
-lineOf form.End = end
+lineOf form.Order = orderLine
+lineOf (form.Atom row) = atomLine (atomOf row)
+lineOf (form.Rule row) = ruleLine (mapped ruleOf row)
+lineOf form.End = endLine
 
 abbrev pub lined : {S : Type 0} → Result (Form S × ℕ) Fault → Result (Line S × ℕ) Fault
 lined (Ok p) = Ok (lineOf (p .0), p .1)
@@ -82,7 +82,7 @@ orderAt spelling text at =
     andThen (passWord orderOpening text at)
     (λ a. andThen (passWord spelling text a)
     (λ b. andThen (passWord closing text b)
-    (λ next. Ok (order, next))))
+    (λ next. Ok (orderLine, next))))
 
 -- (atom N K S)
 unfoldable pub atomAt : {S : Type 0} → (List ℕ → ℕ → Result (S × ℕ) Fault) → List ℕ → Room → Reader → Result (Line S × ℕ) Fault
@@ -94,7 +94,7 @@ atomAt stampAt text room r =
     (λ c. andThen (readingAt text c)
     (λ k. andThen (stampAt text (k .1))
     (λ s. andThen (passWord closing text (s .1))
-    (λ next. Ok (atom (record { stamp = s .0; reading = k .0 }), next))))))))
+    (λ next. Ok (atomLine (record { stamp = s .0; reading = k .0 }), next))))))))
 
 -- (rule N H (P..) (Q..))
 unfoldable pub ruleFormAt : {S : Type 0} → List ℕ → Room → Reader → Result (Line S × ℕ) Fault
@@ -104,7 +104,7 @@ ruleFormAt text room r =
     (andThen (nextNumber text (r .rules) a)
     (λ b. andThen (ruleAt text (record { form = r .next; rule = r .rules; atoms = r .atoms }) b)
     (λ p. andThen (passWord closing text (p .1))
-    (λ next. Ok (rule (Some (p .0)), next))))))
+    (λ next. Ok (ruleLine (Some (p .0)), next))))))
 
 -- (void N)
 unfoldable pub voidAt : {S : Type 0} → List ℕ → Room → Reader → Result (Line S × ℕ) Fault
@@ -113,11 +113,11 @@ voidAt text room r =
     (λ a. ifRoom (r .next) (r .rules) (room .rules)
     (andThen (nextNumber text (r .rules) a)
     (λ b. andThen (passWord closing text b)
-    (λ next. Ok (rule None, next)))))
+    (λ next. Ok (ruleLine None, next)))))
 
 -- (end)
 unfoldable pub endAt : {S : Type 0} → List ℕ → ℕ → Result (Line S × ℕ) Fault
-endAt text at = andThen (passWord endOpening text at) (λ a. andThen (passAt 10 text a) (λ next. Ok (end, next)))
+endAt text at = andThen (passWord endOpening text at) (λ a. andThen (passAt 10 text a) (λ next. Ok (endLine, next)))
 
 -- the place of the first byte that no form of a rule has there
 abbrev pub refusedRule : List ℕ → ℕ → ℕ

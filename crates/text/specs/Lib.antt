@@ -7,3 +7,4 @@ pub mod Stamps
 pub mod Kinds
 pub mod Rules
 pub mod Forms
+pub mod Reads

@@ -1,7 +1,8 @@
 // Reading one form.
 ghost use mathlib.Core.Path.{_≡_};
-ghost use Prim.Native.Nat.{_≤_};
+ghost use Rattle.std.specs.Vec.{made};
 ghost use Rattle.text.specs.Forms.{lined, nextNumber, readingAt, orderAt, atomAt, ruleFormAt, voidAt, endAt, refusedAt, formAt};
+ghost use Rattle.text.specs.Reads.{Roomy};
 use crate::bytes::byte_at;
 use crate::bytes::pass;
 use crate::bytes::wrong;
@@ -45,7 +46,8 @@ fn reading(text: &[u8], at: usize) -> Result<(bool, usize), Fault>
 }
 
 fn order_form<S: Spelled>(text: &[u8], at: usize) -> Result<(Form<S>, usize), Fault>
-    ensures { λ r. ⌜ lined r ≡ orderAt (S·Spelled .spelling) (now (text .entry)) at ⌝ }
+    ensures plain { λ r. ⌜ made r (λ p. p .0 ≡ Form.Order) ⌝ }
+    ensures value { λ r. ⌜ lined r ≡ orderAt (S·Spelled .spelling) (now (text .entry)) at ⌝ }
 {
     let at = pass_word(text, at, b"(order ")?;
     let at = pass_word(text, at, S::word())?;
@@ -54,7 +56,8 @@ fn order_form<S: Spelled>(text: &[u8], at: usize) -> Result<(Form<S>, usize), Fa
 }
 
 fn atom_form<S: Spelled>(text: &[u8], room: Room, reader: Reader) -> Result<(Form<S>, usize), Fault>
-    ensures { λ r. ⌜ lined r ≡ atomAt (S·Spelled .stampAt) (now (text .entry)) room reader ⌝ }
+    ensures roomy { λ r. ⌜ made r (λ p. Roomy room reader (p .0)) ⌝ }
+    ensures value { λ r. ⌜ lined r ≡ atomAt (S·Spelled .stampAt) (now (text .entry)) room reader ⌝ }
 {
     let at = pass_word(text, reader.next, b"(atom ")?;
     if reader.atoms >= room.atoms {
@@ -69,7 +72,8 @@ fn atom_form<S: Spelled>(text: &[u8], room: Room, reader: Reader) -> Result<(For
 }
 
 fn rule_form<S: Spelled>(text: &[u8], room: Room, reader: Reader) -> Result<(Form<S>, usize), Fault>
-    ensures { λ r. ⌜ lined r ≡ ruleFormAt (now (text .entry)) room reader ⌝ }
+    ensures roomy { λ r. ⌜ made r (λ p. Roomy room reader (p .0)) ⌝ }
+    ensures value { λ r. ⌜ lined r ≡ ruleFormAt (now (text .entry)) room reader ⌝ }
 {
     let at = pass_word(text, reader.next, b"(rule ")?;
     if reader.rules >= room.rules {
@@ -87,7 +91,8 @@ fn rule_form<S: Spelled>(text: &[u8], room: Room, reader: Reader) -> Result<(For
 }
 
 fn void_form<S: Spelled>(text: &[u8], room: Room, reader: Reader) -> Result<(Form<S>, usize), Fault>
-    ensures { λ r. ⌜ lined r ≡ voidAt (now (text .entry)) room reader ⌝ }
+    ensures roomy { λ r. ⌜ made r (λ p. Roomy room reader (p .0)) ⌝ }
+    ensures value { λ r. ⌜ lined r ≡ voidAt (now (text .entry)) room reader ⌝ }
 {
     let at = pass_word(text, reader.next, b"(void ")?;
     if reader.rules >= room.rules {
@@ -99,7 +104,8 @@ fn void_form<S: Spelled>(text: &[u8], room: Room, reader: Reader) -> Result<(For
 }
 
 fn end_form<S: Spelled>(text: &[u8], at: usize) -> Result<(Form<S>, usize), Fault>
-    ensures { λ r. ⌜ lined r ≡ endAt (now (text .entry)) at ⌝ }
+    ensures plain { λ r. ⌜ made r (λ p. p .0 ≡ Form.End) ⌝ }
+    ensures value { λ r. ⌜ lined r ≡ endAt (now (text .entry)) at ⌝ }
 {
     let at = pass_word(text, at, b"(end)")?;
     let next = pass(text, at, b'\n')?;
@@ -123,7 +129,8 @@ fn refused_at(text: &[u8], stage: Stage, at: usize) -> usize
 
 // The form at which the reader stands, and the place after it.
 pub fn form<S: Spelled>(text: &[u8], room: Room, reader: Reader) -> Result<(Form<S>, usize), Fault>
-    ensures { λ r. ⌜ lined r ≡ formAt (S·Spelled .stampAt) (S·Spelled .spelling) (now (text .entry)) room reader ⌝ }
+    ensures roomy { λ r. ⌜ made r (λ p. Roomy room reader (p .0)) ⌝ }
+    ensures value { λ r. ⌜ lined r ≡ formAt (S·Spelled .stampAt) (S·Spelled .spelling) (now (text .entry)) room reader ⌝ }
 {
     match (reader.stage, kind_at(text, reader.next)) {
         (Stage::Start, Some(Kind::Order)) => order_form(text, reader.next),

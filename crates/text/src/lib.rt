@@ -5,6 +5,7 @@ pub mod forms;
 pub mod kind;
 pub mod lists;
 pub mod numbers;
+pub mod read;
 pub mod reader;
 pub mod rule;
 pub mod site;
