@@ -15,7 +15,7 @@ use Rattle.makes.specs.Flats.{atomOf, ruleOf}
 use Rattle.makes.specs.declared.rows.AtomRow.{AtomRow}
 use Rattle.makes.specs.declared.rows.RuleRow.{RuleRow}
 use Rattle.text.specs.Reads.{Progress, progressAt, surveyAt, bookAt, Rows, Held, Accepted, ReadInto}
-use Rattle.text.specs.declared.reader.Counts.{Counts}
+use Rattle.text.specs.declared.counts.Counts.{Counts}
 use Rattle.text.specs.declared.reader.Reader.{Reader}
 use Rattle.text.specs.declared.reader.Room.{Room}
 use Rattle.text.proofs.Surveyed.{surveyOf, bookOf, survey-is, book-is, book-accepted, book-refused, no-fault}

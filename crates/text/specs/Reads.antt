@@ -22,7 +22,7 @@ use Rattle.text.specs.declared.reader.Stage.{Stage}
 use Rattle.text.specs.declared.reader.Stage.the-variants.{Start, Atoms, Rules, End}
 use Rattle.text.specs.declared.reader.Reader.{Reader}
 use Rattle.text.specs.declared.reader.Room.{Room}
-use Rattle.text.specs.declared.reader.Counts.{Counts}
+use Rattle.text.specs.declared.counts.Counts.{Counts}
 use Rattle.text.specs.declared.form.Form.{Form}
 use Rattle.text.specs.declared.form.Form.the-variants as form
 

@@ -14,7 +14,7 @@ use Rattle.text.specs.Bytes.{andThen, wrongAt, passAt}
 use Rattle.text.specs.Turns.{tries}
 use Rattle.text.specs.Numbers.{numberAt}
 use Rattle.text.specs.Lists.{openAt, onwardAt}
-use Rattle.text.specs.declared.stamp.Aisles.{Aisles}
+use Rattle.text.specs.declared.aisles.Aisles.{Aisles}
 
 -- a tick is a number
 abbrev pub tickAt : List ℕ → ℕ → Result (Tick × ℕ) Fault

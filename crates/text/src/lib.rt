@@ -1,13 +1,15 @@
 // The bracket text: reading a book from bytes.
-pub mod bytes;
-pub mod form;
-pub mod forms;
-pub mod kind;
-pub mod lists;
-pub mod numbers;
+mod aisles;
+mod bytes;
+pub mod counts;
+mod form;
+mod forms;
+mod kind;
+mod lists;
+mod numbers;
 pub mod read;
-pub mod reader;
-pub mod rule;
-pub mod site;
+mod reader;
+mod rule;
+mod site;
 pub mod stamp;
-pub mod words;
+mod words;

@@ -24,10 +24,3 @@ pub struct Room {
     pub atoms: usize,
     pub rules: usize,
 }
-
-// How many atoms and rules a text has.
-#[derive(Clone, Copy, PartialEq, Eq, Debug)]
-pub struct Counts {
-    pub atoms: usize,
-    pub rules: usize,
-}

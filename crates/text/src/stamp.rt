@@ -4,10 +4,9 @@ ghost use mathlib.Core.Path.{_≡_};
 ghost use Prim.Native.Nat.{ℕ};
 ghost use Rattle.std.specs.declared.result.Result.{Result as Answer};
 ghost use Rattle.books.specs.declared.fault.Fault.{Fault as Refused};
-ghost use Rattle.text.specs.Stamps.{tickAt, pairAt, routeAt, tickWord, routeWord, thenWord, oneAisle, aislesAt};
+ghost use Rattle.text.specs.Stamps.{tickAt, pairAt, routeAt, tickWord, routeWord, thenWord};
+use crate::aisles::rising;
 use crate::bytes::pass;
-use crate::bytes::wrong;
-use crate::lists::list_onward;
 use crate::lists::open_list;
 use crate::numbers::MAX_NUMBER;
 use crate::numbers::number;
@@ -19,9 +18,6 @@ use stamps::then::Then;
 use stamps::then::ThenOrder;
 use stamps::tick::Tick;
 use stamps::tick::TickOrder;
-
-// The highest aisle of a route.
-const MAX_AISLE: u64 = 63;
 
 // A kind of stamp that a text can hold.
 pub trait Spelled: Order {
@@ -77,54 +73,6 @@ pub impl Spelled for Then<Tick, Tick> as ThenSpelled {
         Ok((Then { first, second }, next))
     }
 }
-
-// The aisles of a route so far: the next one is not below `least`.
-#[derive(Clone, Copy)]
-pub struct Aisles {
-    aisles: u64,
-    least: u64,
-    more: bool,
-    next: usize,
-}
-
-// One more aisle, if one follows.
-fn one_aisle(text: &[u8], so_far: Aisles) -> Result<Aisles, Fault>
-    ensures { λ r. ⌜ r ≡ oneAisle (now (text .entry)) «so_far» ⌝ }
-{
-    if !so_far.more {
-        return Ok(so_far);
-    }
-    let (aisle, after) = number(text, so_far.next, MAX_AISLE)?;
-    if aisle < so_far.least {
-        return wrong(so_far.next);
-    }
-    let (more, next) = list_onward(text, after)?;
-    Ok(Aisles {
-        aisles: so_far.aisles | 1 << aisle,
-        least: aisle + 1,
-        more,
-        next,
-    })
-}
-
-// The aisles of a list whose opening is passed.
-fn rising(text: &[u8], more: bool, next: usize) -> Result<Aisles, Fault>
-    ensures { λ r. ⌜ r ≡ aislesAt (now (text .entry)) (more, next) ⌝ }
-{
-    let mut so_far = Aisles {
-        aisles: 0,
-        least: 0,
-        more,
-        next,
-    };
-    for _turn in 0..MAX_TURNS {
-        so_far = one_aisle(text, so_far)?;
-    }
-    Ok(so_far)
-}
-
-// Of aisles that rise, a list has 64 at most, and the 65th is refused.
-const MAX_TURNS: usize = 65;
 
 pub impl Spelled for Route as RouteSpelled {
     ghost spelling = { routeWord };

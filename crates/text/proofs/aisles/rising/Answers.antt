@@ -6,7 +6,7 @@ use Rattle.text.specs.Bytes.{andThen}
 use Rattle.text.specs.Stamps.{aislesAt, noAisle, oneAisle}
 use Rattle.text.specs.Turns.{tries}
 use Rattle.text.proofs.Turned.{turns-none, tries-more, tries-refused}
-use Rattle.text.proofs.stamp.rising.Needs as need
+use Rattle.text.proofs.aisles.rising.Needs as need
 
 pub loop-turn-holds : need.loop-turn-holds
 loop-turn-holds c = sym (turns-none (λ r. andThen r (oneAisle (c .args .text .now))) (Ok (noAisle (c .args .more, c .args .next))))
