@@ -1,0 +1,295 @@
+// Tests of the bracket text, which are many.
+use books::fault::Fault;
+use books::fault::Refusal;
+use books::fault::Values;
+use makes::body::Body;
+use makes::rows::AtomRow;
+use makes::rows::RuleRow;
+use stamps::route::Route;
+use stamps::then::Then;
+use stamps::tick::Tick;
+use text::counts::Counts;
+use text::read::read;
+use text::stamp::RouteSpelled;
+use text::stamp::Spelled;
+use text::stamp::ThenSpelled;
+use text::stamp::TickSpelled;
+
+// A stamp that stands in the tables before a text is read.
+trait Mark: Spelled {
+    fn mark() -> Self;
+
+    fn is_mark(&self) -> bool;
+}
+
+impl Mark for Tick as TickMark {
+    fn mark() -> Tick {
+        Tick(7777)
+    }
+
+    fn is_mark(&self) -> bool {
+        self.0 == 7777
+    }
+}
+
+impl Mark for Route as RouteMark {
+    fn mark() -> Route {
+        Route { aisles: 7777 }
+    }
+
+    fn is_mark(&self) -> bool {
+        self.aisles == 7777
+    }
+}
+
+impl Mark for Then<Tick, Tick> as ThenMark {
+    fn mark() -> Then<Tick, Tick> {
+        Then {
+            first: Tick(7777),
+            second: Tick(7778),
+        }
+    }
+
+    fn is_mark(&self) -> bool {
+        self.first.0 == 7777 && self.second.0 == 7778
+    }
+}
+
+fn marked_row<S: Mark>(row: AtomRow<S>) -> bool {
+    row.reading && row.stamp.is_mark()
+}
+
+// A rule row that no text here has.
+fn marked_rule(row: Option<RuleRow>) -> bool {
+    match row {
+        Some(rule) => rule.head == 7777,
+        None => false,
+    }
+}
+
+// Reads into marked tables; a refusal that leaves a mark changed gives none.
+fn refusal<S: Mark>(text: &[u8], atoms: &mut [AtomRow<S>], rules: &mut [Option<RuleRow>]) -> Option<Refusal> {
+    let fault = match read::<S>(text, atoms, rules) {
+        Ok(_) => return None,
+        Err(fault) => fault,
+    };
+    for row in atoms.iter() {
+        if !marked_row(*row) {
+            return None;
+        }
+    }
+    for row in rules.iter() {
+        if !marked_rule(*row) {
+            return None;
+        }
+    }
+    Some(fault.refusal())
+}
+
+fn mark_row<S: Mark>() -> AtomRow<S> {
+    AtomRow {
+        stamp: S::mark(),
+        reading: true,
+    }
+}
+
+fn mark_rule() -> Option<RuleRow> {
+    let empty = Body::of(&[])?;
+    Some(RuleRow {
+        head: 7777,
+        positives: empty,
+        negatives: empty,
+    })
+}
+
+fn tick_refusal(text: &[u8]) -> Option<Refusal> {
+    refusal(text, &mut [mark_row::<TickMark>(); 4], &mut [mark_rule(); 3])
+}
+
+fn route_refusal(text: &[u8]) -> Option<Refusal> {
+    refusal(text, &mut [mark_row::<RouteMark>(); 4], &mut [mark_rule(); 3])
+}
+
+fn then_refusal(text: &[u8]) -> Option<Refusal> {
+    refusal(text, &mut [mark_row::<ThenMark>(); 4], &mut [mark_rule(); 3])
+}
+
+// The row is a rule with this head and so many positives and negatives.
+fn is_rule(row: &Option<RuleRow>, head: usize, positives: usize, negatives: usize) -> bool {
+    match row {
+        Some(rule) => rule.head == head && rule.positives.count() == positives && rule.negatives.count() == negatives,
+        None => false,
+    }
+}
+
+// The text is refused with this number at this place, and the tables stay.
+fn refused_at(refusal: Option<Refusal>, number: u8, place: usize) -> bool {
+    match refusal {
+        Some(refusal) => {
+            refusal.number == number
+                && match refusal.values {
+                    Values::One(found) => found == place,
+                    Values::RuleLiteral(_, _) => false,
+                }
+        }
+        None => false,
+    }
+}
+
+// The text is refused with 4 at this rule and literal, and the tables stay.
+fn undeclared(text: &[u8], rule: usize, literal: usize) -> bool {
+    match tick_refusal(text) {
+        Some(refusal) => {
+            refusal.number == 4
+                && match refusal.values {
+                    Values::One(_) => false,
+                    Values::RuleLiteral(found, place) => found == rule && place == literal,
+                }
+        }
+        None => false,
+    }
+}
+
+#[cfg(test)]
+mod tests {
+    use super::*;
+    use books::fault::FaultDebug;
+    use std::test::*;
+
+    #[test]
+    fn wrong_forms_at_the_start() -> Result<(), Fail> {
+        check(refused_at(tick_refusal(b""), 1, 0))?;
+        check(refused_at(tick_refusal(b"x"), 1, 0))?;
+        check(refused_at(tick_refusal(b"(atom 0 in 1)\n"), 1, 1))?;
+        check(refused_at(tick_refusal(b"(rule 0 0 () ())\n"), 1, 1))?;
+        check(refused_at(tick_refusal(b"(void 0)\n"), 1, 1))?;
+        check(refused_at(tick_refusal(b"(end)\n"), 1, 1))?;
+        check(refused_at(tick_refusal(b"(oder tick)\n"), 1, 2))?;
+        check(refused_at(tick_refusal(b"(order route)\n"), 1, 7))?;
+        check(refused_at(tick_refusal(b"(order ticks)\n"), 1, 11))?;
+        check(refused_at(tick_refusal(b"(order tick)\r\n"), 1, 12))
+    }
+
+    #[test]
+    fn wrong_forms_among_atoms() -> Result<(), Fail> {
+        check(refused_at(tick_refusal(b"(order tick)\n(order tick)\n"), 1, 14))?;
+        check(refused_at(tick_refusal(b"(order tick)\n(about"), 1, 15))?;
+        check(refused_at(tick_refusal(b"(order tick)\n(rule:"), 1, 18))?;
+        check(refused_at(tick_refusal(b"(order tick)\n(end )\n"), 1, 17))?;
+        check(refused_at(tick_refusal(b"(order tick)\n(end) \n"), 1, 18))?;
+        check(refused_at(tick_refusal(b"(order tick)\n\n(end)\n"), 1, 13))
+    }
+
+    #[test]
+    fn wrong_forms_among_rules() -> Result<(), Fail> {
+        check(refused_at(tick_refusal(b"(order tick)\n(void 0)\n(atom 0 in 1)\n"), 1, 23))?;
+        check(refused_at(tick_refusal(b"(order tick)\n(void 0)\n(order tick)\n"), 1, 23))?;
+        check(refused_at(tick_refusal(b"(order tick)\n(void 0)\n(voip 1)\n"), 1, 26))
+    }
+
+    #[test]
+    fn anything_past_the_end() -> Result<(), Fail> {
+        check(refused_at(tick_refusal(b"(order tick)\n(end)\n\n"), 1, 19))?;
+        check(refused_at(tick_refusal(b"(order tick)\n(end)\n(end)\n"), 1, 19))?;
+        check(refused_at(tick_refusal(b"(order tick)\n(end)\n(atom 0 in 1)\n"), 1, 19))?;
+        check(refused_at(tick_refusal(b"(order tick)\n(end)"), 1, 18))
+    }
+
+    #[test]
+    fn atoms_that_are_refused() -> Result<(), Fail> {
+        check(refused_at(tick_refusal(b"(order tick)\n(atom 1 in 1)\n"), 2, 19))?;
+        check(refused_at(tick_refusal(b"(order tick)\n(atom x in 1)\n"), 1, 19))?;
+        check(refused_at(tick_refusal(b"(order tick)\n(atom 0  in 1)\n"), 1, 21))?;
+        check(refused_at(tick_refusal(b"(order tick)\n(atom 0 on 1)\n"), 1, 22))?;
+        check(refused_at(tick_refusal(b"(order tick)\n(atom 0 inn 1)\n"), 1, 23))?;
+        check(refused_at(tick_refusal(b"(order tick)\n(atom 0 in (1))\n"), 1, 24))?;
+        check(refused_at(tick_refusal(b"(order tick)\n(atom 0 in 12345678901)\n"), 1, 34))?;
+        check(refused_at(tick_refusal(b"(order tick)\n(atom 0 in 4294967296)\n"), 2, 24))?;
+        check(refused_at(tick_refusal(b"(order tick)\n(atom 0 in 1)\r\n"), 1, 26))?;
+        check(refused_at(tick_refusal(b"(order tick)\n(atom 0 in 1"), 1, 25))
+    }
+
+    #[test]
+    fn routes_that_are_refused() -> Result<(), Fail> {
+        check(refused_at(route_refusal(b"(order route)\n(atom 0 in (64))\n"), 2, 26))?;
+        check(refused_at(route_refusal(b"(order route)\n(atom 0 in (0064))\n"), 2, 26))?;
+        check(refused_at(route_refusal(b"(order route)\n(atom 0 in (5 5))\n"), 1, 28))?;
+        check(refused_at(route_refusal(b"(order route)\n(atom 0 in (5 3))\n"), 1, 28))?;
+        check(refused_at(route_refusal(b"(order route)\n(atom 0 in (5 )\n"), 1, 28))?;
+        check(refused_at(route_refusal(b"(order route)\n(atom 0 in ( 5))\n"), 1, 26))?;
+        check(refused_at(route_refusal(b"(order route)\n(atom 0 in 5)\n"), 1, 25))
+    }
+
+    #[test]
+    fn pairs_that_are_refused() -> Result<(), Fail> {
+        check(refused_at(then_refusal(b"(order then)\n(atom 0 in 3)\n"), 1, 24))?;
+        check(refused_at(then_refusal(b"(order then)\n(atom 0 in (3))\n"), 1, 26))?;
+        check(refused_at(then_refusal(b"(order then)\n(atom 0 in (3 1 2))\n"), 1, 28))?;
+        check(refused_at(then_refusal(b"(order then)\n(atom 0 in (3 4294967296))\n"), 2, 27))
+    }
+
+    #[test]
+    fn tables_that_are_full() -> Result<(), Fail> {
+        let four = b"(order tick)\n(atom 0 in 1)\n(atom 1 in 1)\n(atom 2 in 1)\n(atom 3 in 1)\n(atom 9 in 1)\n(end)\n";
+        check(refused_at(tick_refusal(four), 3, 69))?;
+        let three = b"(order tick)\n(void 0)\n(void 1)\n(void 2)\n(void 9)\n(end)\n";
+        check(refused_at(tick_refusal(three), 3, 40))?;
+        let rule = b"(order tick)\n(void 0)\n(void 1)\n(void 2)\n(rule x";
+        check(refused_at(tick_refusal(rule), 3, 40))
+    }
+
+    #[test]
+    fn rules_that_are_refused() -> Result<(), Fail> {
+        check(undeclared(b"(order tick)\n(atom 0 out 1)\n(rule 0 1 () ())\n", 0, 0))?;
+        check(undeclared(b"(order tick)\n(atom 0 out 1)\n(void 0)\n(rule 1 0 (0 1) ())\n", 1, 2))?;
+        check(undeclared(b"(order tick)\n(atom 0 out 1)\n(rule 0 0 (0 0) (0 5))\n", 0, 4))?;
+        check(refused_at(tick_refusal(b"(order tick)\n(atom 0 out 1)\n(rule 0 0 (0 0 0 0 0 0 0) ())\n"), 3, 28))?;
+        check(refused_at(tick_refusal(b"(order tick)\n(atom 0 out 1)\n(rule 0 0 () (0 0 0 0 0 0 9"), 3, 28))?;
+        check(refused_at(tick_refusal(b"(order tick)\n(atom 0 out 1)\n(rule 1 0 () ())\n"), 2, 34))?;
+        check(refused_at(tick_refusal(b"(order tick)\n(atom 0 out 1)\n(rule 0 0 ()())\n"), 1, 40))?;
+        check(refused_at(tick_refusal(b"(order tick)\n(atom 0 out 1)\n(rule 0 4294967296 () ())\n"), 2, 36))
+    }
+
+    #[test]
+    fn a_text_cut_after_each_byte() -> Result<(), Fail> {
+        let text = b"(order tick)\n(atom 0 in 1)\n(atom 1 out 2)\n(rule 0 1 (0) ())\n(void 1)\n(end)\n";
+        for n in 0..text.len() {
+            check(refused_at(tick_refusal(&text[0..n]), 1, n))?;
+        }
+        Ok(())
+    }
+
+    #[test]
+    fn an_accepted_text() -> Result<(), Fail> {
+        let row = AtomRow {
+            stamp: Tick(7777),
+            reading: true,
+        };
+        let mut atoms = [row; 4];
+        let mut rules = [None; 4];
+        let text = b"(order tick)\n(atom 0 in 0000000001)\n(atom 1 out 4294967295)\n(rule 0000000000 1 (0) (0 0))\n(void 1)\n(end)\n";
+        let counts = read::<Tick>(text, &mut atoms, &mut rules)?;
+        check(counts.atoms == 2 && counts.rules == 2)?;
+        let [first, second, third, fourth] = atoms;
+        check(first.reading && first.stamp.0 == 1)?;
+        check(!second.reading && second.stamp.0 == 4294967295)?;
+        check(marked_row(third) && marked_row(fourth))?;
+        check(is_rule(&rules[0], 1, 1, 2))?;
+        check(rules[1].is_none() && rules[2].is_none() && rules[3].is_none())
+    }
+
+    #[test]
+    fn an_accepted_route() -> Result<(), Fail> {
+        let row = AtomRow {
+            stamp: Route { aisles: 0 },
+            reading: false,
+        };
+        let mut atoms = [row; 2];
+        let mut rules = [None; 1];
+        let text = b"(order route)\n(atom 0 in ())\n(atom 1 out (0 2 063))\n(end)\n";
+        let counts = read::<Route>(text, &mut atoms, &mut rules)?;
+        check(counts.atoms == 2 && counts.rules == 0)?;
+        check(atoms[0].reading && atoms[0].stamp.aisles == 0)?;
+        check(atoms[1].stamp.aisles == 9223372036854775813)
+    }
+}
