@@ -5,3 +5,4 @@ pub mod Bodied
 pub mod Surveyed
 pub mod Filled
 pub mod Verdict
+pub mod Laid

@@ -8,3 +8,4 @@ pub mod Kinds
 pub mod Rules
 pub mod Forms
 pub mod Reads
+pub mod Written

@@ -10,6 +10,7 @@ mod numbers;
 pub mod read;
 mod reader;
 mod rule;
+mod sheet;
 mod site;
 pub mod stamp;
 mod words;

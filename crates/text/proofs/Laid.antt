@@ -1,0 +1,37 @@
+-- Bytes on a sheet, one after another.
+use Prim.Native.Nat.{ℕ, _+_, _^_, _<_, _≤_}
+use mathlib.Core.List.{List, [], _∷_, _++_}
+use mathlib.Core.Path.{_≡_, refl, sym, ap, _∙_}
+use native.Mathlib.Omega.{arith}
+use lib.ListN.{length, getD, set, drop, length-append}
+use Rattle.std.proofs.shelf.Lists.{at-drop-more, at-drop-all, set-past}
+use Rattle.std.proofs.shelf.Decimals.{length-decimal-le}
+use Rattle.std.specs.Written.{decimal}
+use Rattle.text.specs.Written.{laid, Wrote}
+
+pub laid-more : (sheet bytes : List ℕ) (at i : ℕ) → i < length bytes → laid sheet at (drop i bytes) ≡ laid (set sheet at (getD bytes i 0)) (at + 1) (drop (i + 1) bytes)
+unfolding laid
+laid-more sheet bytes at i h = at-drop-more (laid sheet at) bytes i 0 h
+
+pub laid-all : (sheet bytes : List ℕ) (at i : ℕ) → length bytes ≤ i → laid sheet at (drop i bytes) ≡ sheet
+unfolding laid
+laid-all sheet bytes at i h = at-drop-all (laid sheet at) bytes i h
+
+laid-append : (sheet xs ys : List ℕ) (at : ℕ) → laid sheet at (xs ++ ys) ≡ laid (laid sheet at xs) (at + length xs) ys
+unfolding laid
+laid-append sheet [] ys at = ap (λ n. laid sheet n ys) (omega arith)
+laid-append sheet (x ∷ xs) ys at = laid-append (set sheet at x) xs ys (at + 1) ∙ ap (λ n. laid (laid (set sheet at x) (at + 1) xs) n ys) (omega arith)
+
+-- one writing after another
+pub wrote-then : {was : List ℕ} {at : ℕ} {xs mid : List ℕ} {between : ℕ} {ys sheet : List ℕ} {next : ℕ} → Wrote was at xs mid between → Wrote mid between ys sheet next → Wrote was at (xs ++ ys) sheet next
+wrote-then {was} {at} {xs} {mid} {between} {ys} {sheet} {next} h k =
+    record {
+      held = k .held ∙ ap (λ s. laid s between ys) (h .held) ∙ ap (λ n. laid (laid was at xs) n ys) (h .place) ∙ sym (laid-append was xs ys at);
+      place = let n = length-append xs ys in let p = h .place in let q = k .place in omega arith }
+
+pub wrote-none : (was : List ℕ) (at : ℕ) → Wrote was at [] was at
+unfolding laid
+wrote-none was at = record { held = refl; place = omega arith }
+
+pub decimal-short : (n : ℕ) → n < 2 ^ 64 → length (decimal n) ≤ 20
+decimal-short n h = length-decimal-le 20 n (omega arith) (omega arith) h
