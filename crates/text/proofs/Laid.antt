@@ -7,6 +7,8 @@ use lib.ListN.{length, getD, set, drop, length-append}
 use Rattle.std.proofs.shelf.Lists.{at-drop-more, at-drop-all, set-past}
 use Rattle.std.proofs.shelf.Decimals.{length-decimal-le}
 use Rattle.std.specs.Written.{decimal}
+use native.Mathlib.Numerals.{add-one}
+use Rattle.text.specs.Spelt.{upTo}
 use Rattle.text.specs.Written.{laid, Wrote}
 
 pub laid-more : (sheet bytes : List ℕ) (at i : ℕ) → i < length bytes → laid sheet at (drop i bytes) ≡ laid (set sheet at (getD bytes i 0)) (at + 1) (drop (i + 1) bytes)
@@ -35,3 +37,17 @@ wrote-none was at = record { held = refl; place = omega arith }
 
 pub decimal-short : (n : ℕ) → n < 2 ^ 64 → length (decimal n) ≤ 20
 decimal-short n h = length-decimal-le 20 n (omega arith) (omega arith) h
+
+-- one more piece
+pub wrote-more : {was : List ℕ} {at : ℕ} {mid : List ℕ} {between : ℕ} {sheet : List ℕ} {next : ℕ} (f : ℕ → List ℕ) (i : ℕ) → Wrote was at (upTo f i) mid between → Wrote mid between (f i) sheet next → Wrote was at (upTo f (i + 1)) sheet next
+unfolding upTo
+wrote-more {was} {at} {mid} {between} {sheet} {next} f i h k = rw (add-one i) (wrote-then h k)
+
+pub wrote-start : (was : List ℕ) (at : ℕ) (f : ℕ → List ℕ) → Wrote was at (upTo f 0) was at
+unfolding upTo
+wrote-start was at f = wrote-none was at
+
+-- the same writing, of what is the same
+pub wrote-as : {was : List ℕ} {at : ℕ} {bytes sheet : List ℕ} {next : ℕ} (bytes′ sheet′ : List ℕ) (next′ : ℕ) → bytes′ ≡ bytes → sheet′ ≡ sheet → next′ ≡ next → Wrote was at bytes sheet next → Wrote was at bytes′ sheet′ next′
+wrote-as {was} {at} {bytes} {sheet} {next} bytes′ sheet′ next′ eb es en h =
+    record { held = es ∙ h .held ∙ ap (laid was at) (sym eb); place = en ∙ h .place ∙ ap (λ b. at + length b) (sym eb) }

@@ -6,3 +6,4 @@ pub mod Surveyed
 pub mod Filled
 pub mod Verdict
 pub mod Laid
+pub mod Aisled

@@ -9,3 +9,4 @@ pub mod Rules
 pub mod Forms
 pub mod Reads
 pub mod Written
+pub mod Spelt
