@@ -1,5 +1,5 @@
 -- The canonical spelling of a book: no leading zeros.
-use Prim.Native.Nat.{ℕ, zero, suc, _+_, _/_, _%_, _^_}
+use Prim.Native.Nat.{ℕ, zero, suc, _+_, _/_, _%_, _^_, _≤_}
 use mathlib.Core.Bool.{Bool, cond}
 use mathlib.Core.List.{List, [], _∷_, _++_}
 use lib.Dec.{eqb}
@@ -8,7 +8,7 @@ use Rattle.std.specs.Finite.{nth}
 use Rattle.std.specs.Written.{decimal}
 use Rattle.std.specs.declared.option.Option.{Option}
 use Rattle.std.specs.declared.option.Option.the-variants.{Some, None}
-use Rattle.books.specs.Meaning.{Rule, Atom, Meaning, ruleAt}
+use Rattle.books.specs.Meaning.{Rule, Atom, Meaning, bindSome, ruleAt, positiveCountOf, negativeCountOf}
 use Rattle.stamps.specs.declared.tick.Tick.{Tick}
 use Rattle.stamps.specs.declared.route.Route.{Route}
 use Rattle.stamps.specs.declared.then.Then.{Then}
@@ -72,10 +72,35 @@ ruleText k (Some r) =
 abbrev pub endText : List ℕ
 endText = 40 ∷ 101 ∷ 110 ∷ 100 ∷ 41 ∷ 10 ∷ []
 
+-- the line of an atom number, and of a rule number
+abbrev pub atomLineOf : {S : Type 0} → (S → List ℕ) → Meaning S → ℕ → List ℕ
+atomLineOf spelt m i = atomText spelt i (nth (m .atoms) i)
+
+abbrev pub ruleLineOf : {S : Type 0} → Meaning S → ℕ → List ℕ
+ruleLineOf m k = ruleText k (ruleAt m k)
+
 -- the order, the atoms, the rules and the end, each on a line of its own
 unfoldable pub bookText : {S : Type 0} → List ℕ → (S → List ℕ) → Meaning S → List ℕ
 bookText spelling spelt m =
-    orderOpening ++ spelling ++ closing
-    ++ upTo (λ i. atomText spelt i (nth (m .atoms) i)) (length (m .atoms))
-    ++ upTo (λ k. ruleText k (ruleAt m k)) (length (m .rules))
-    ++ endText
+    orderOpening ++ spelling ++ closing ++ upTo (atomLineOf spelt m) (length (m .atoms)) ++ upTo (ruleLineOf m) (length (m .rules)) ++ endText
+
+-- number i of a rule's positives, or of its negatives
+abbrev pub literalIn : Bool → Option Rule → ℕ → Option ℕ
+literalIn positive o i = bindSome (λ (r : Rule). nth (cond positive (r .positives) (r .negatives)) i) o
+
+-- the same, as it stands in a list
+abbrev pub itemIn : Bool → Option Rule → ℕ → List ℕ
+itemIn positive o i = item i (literalIn positive o i)
+
+-- so many numbers of such a list, in brackets
+abbrev pub bodyText : Bool → Option Rule → ℕ → List ℕ
+bodyText positive o n = opening ++ upTo (itemIn positive o) n ++ shutting
+
+-- a count, which is 0 where there is none
+abbrev pub countOr : Option ℕ → ℕ
+countOr None = 0
+countOr (Some n) = n
+
+-- each rule has six positives and six negatives at most
+abbrev pub Few : {S : Type 0} → Meaning S → Type 0
+Few m = (k : ℕ) → (countOr (positiveCountOf m k) ≤ 6) × (countOr (negativeCountOf m k) ≤ 6)

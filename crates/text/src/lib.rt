@@ -5,6 +5,7 @@ pub mod counts;
 mod form;
 mod forms;
 mod kind;
+mod lines;
 mod lists;
 mod numbers;
 pub mod read;

@@ -1,4 +1,5 @@
 // Stamps that have a word: how a text names their kind, and how it writes them.
+ghost use lib.ListN.{length};
 ghost use mathlib.Core.List.{List};
 ghost use mathlib.Core.Path.{_≡_};
 ghost use Prim.Native.Nat.{ℕ, _+_, _^_, _<_, _≤_};
@@ -36,7 +37,8 @@ pub trait Spelled: Order {
     ghost spelt: { Self → List ℕ };
 
     fn word() -> &'static [u8]
-        ensures { λ r. ⌜ now r ≡ spelling ⌝ };
+        ensures value { λ r. ⌜ now r ≡ spelling ⌝ }
+        ensures short { λ r. ⌜ length (now r) ≤ 8 ⌝ };
 
     fn stamp(text: &[u8], at: usize) -> Result<(Self, usize), Fault>
         ensures { λ r. ⌜ r ≡ stampAt (now (text .entry)) at ⌝ };
