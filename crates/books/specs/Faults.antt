@@ -8,7 +8,7 @@ use Rattle.books.specs.declared.fault.Refusal.{Refusal}
 use Rattle.books.specs.declared.fault.ReadFault.{ReadFault}
 use Rattle.books.specs.declared.fault.ReadFault.the-variants.{Byte, Number, TooMany, AtomMissing}
 use Rattle.books.specs.declared.fault.CheckFault.{CheckFault}
-use Rattle.books.specs.declared.fault.CheckFault.the-variants.{TooLarge, BodyTooLong, HeadMissing, HeadIsReading, LiteralMissing, PositiveOutOfOrder, NegativeOutOfOrder}
+use Rattle.books.specs.declared.fault.CheckFault.the-variants.{TooLarge, BodyTooLong, HeadMissing, HeadIsReading, LiteralMissing, PositiveOutOfOrder, NegativeOutOfOrder, SheetTooShort}
 use Rattle.books.specs.declared.fault.Fault.{Fault}
 use Rattle.books.specs.declared.fault.Fault.the-variants as fault
 
@@ -24,6 +24,7 @@ checkRefusal (HeadIsReading rule) = checkingAt 5 rule 0
 checkRefusal (LiteralMissing rule literal) = checkingAt 4 rule literal
 checkRefusal (PositiveOutOfOrder rule literal) = checkingAt 6 rule literal
 checkRefusal (NegativeOutOfOrder rule literal) = checkingAt 7 rule literal
+checkRefusal (SheetTooShort needed) = record { layer = Checking; number = 17; values = One needed }
 
 -- a refusal of the reader, with what it names
 abbrev pub readingAt : ℕ → Values → Refusal

@@ -34,7 +34,7 @@ pub enum ReadFault {
     AtomMissing { rule: usize, literal: usize },
 }
 
-// What the check refuses. Literals count from 1, positives first.
+// What the check and the writer of a text refuse. Literals count from 1, positives first.
 #[derive(Clone, Copy, PartialEq, Eq, Debug)]
 pub enum CheckFault {
     TooLarge,
@@ -44,6 +44,7 @@ pub enum CheckFault {
     LiteralMissing { rule: usize, literal: usize },
     PositiveOutOfOrder { rule: usize, literal: usize },
     NegativeOutOfOrder { rule: usize, literal: usize },
+    SheetTooShort { needed: usize },
 }
 
 // Every refusal of the product, by layer.
@@ -73,19 +74,20 @@ impl Fault {
                 }
             }
             Fault::Checking(fault) => {
-                let (number, rule, literal) = match *fault {
-                    CheckFault::TooLarge => (3, 0, 0),
-                    CheckFault::BodyTooLong { rule } => (3, rule, 0),
-                    CheckFault::HeadMissing { rule } => (4, rule, 0),
-                    CheckFault::HeadIsReading { rule } => (5, rule, 0),
-                    CheckFault::LiteralMissing { rule, literal } => (4, rule, literal),
-                    CheckFault::PositiveOutOfOrder { rule, literal } => (6, rule, literal),
-                    CheckFault::NegativeOutOfOrder { rule, literal } => (7, rule, literal),
+                let (number, values) = match *fault {
+                    CheckFault::TooLarge => (3, Values::RuleLiteral(0, 0)),
+                    CheckFault::BodyTooLong { rule } => (3, Values::RuleLiteral(rule, 0)),
+                    CheckFault::HeadMissing { rule } => (4, Values::RuleLiteral(rule, 0)),
+                    CheckFault::HeadIsReading { rule } => (5, Values::RuleLiteral(rule, 0)),
+                    CheckFault::LiteralMissing { rule, literal } => (4, Values::RuleLiteral(rule, literal)),
+                    CheckFault::PositiveOutOfOrder { rule, literal } => (6, Values::RuleLiteral(rule, literal)),
+                    CheckFault::NegativeOutOfOrder { rule, literal } => (7, Values::RuleLiteral(rule, literal)),
+                    CheckFault::SheetTooShort { needed } => (17, Values::One(needed)),
                 };
                 Refusal {
                     layer: Layer::Checking,
                     number,
-                    values: Values::RuleLiteral(rule, literal),
+                    values,
                 }
             }
         }
