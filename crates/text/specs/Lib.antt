@@ -10,3 +10,4 @@ pub mod Forms
 pub mod Reads
 pub mod Written
 pub mod Spelt
+pub mod Writes

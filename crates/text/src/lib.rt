@@ -4,6 +4,7 @@ mod bytes;
 pub mod counts;
 mod form;
 mod forms;
+mod gaps;
 mod kind;
 mod lines;
 mod lists;
