@@ -4,7 +4,7 @@ use mathlib.Core.List.{List, [], _∷_, _++_}
 use mathlib.Core.Path.{_≡_, refl, sym, ap, _∙_}
 use native.Mathlib.Omega.{arith}
 use lib.ListN.{length, getD, set, drop, length-append}
-use Rattle.std.proofs.shelf.Lists.{at-drop-more, at-drop-all, set-past}
+use Rattle.std.proofs.shelf.Lists.{at-drop-more, at-drop-all, set-at, length-push, append-nil, append-assoc}
 use Rattle.std.proofs.shelf.Decimals.{length-decimal-le}
 use Rattle.std.specs.Written.{decimal}
 use native.Mathlib.Numerals.{add-one}
@@ -51,3 +51,17 @@ wrote-start was at f = wrote-none was at
 pub wrote-as : {was : List ℕ} {at : ℕ} {bytes sheet : List ℕ} {next : ℕ} (bytes′ sheet′ : List ℕ) (next′ : ℕ) → bytes′ ≡ bytes → sheet′ ≡ sheet → next′ ≡ next → Wrote was at bytes sheet next → Wrote was at bytes′ sheet′ next′
 wrote-as {was} {at} {bytes} {sheet} {next} bytes′ sheet′ next′ eb es en h =
     record { held = es ∙ h .held ∙ ap (laid was at) (sym eb); place = en ∙ h .place ∙ ap (λ b. at + length b) (sym eb) }
+
+laid-after : (pre s bytes : List ℕ) → length bytes ≤ length s → laid (pre ++ s) (length pre) bytes ≡ (pre ++ bytes) ++ drop (length bytes) s
+unfolding laid
+laid-after pre s [] h = ap (λ p. p ++ s) (sym (append-nil pre))
+laid-after pre [] (b ∷ bytes) h = absurd (omega arith)
+laid-after pre (x ∷ s) (b ∷ bytes) h =
+    ap (λ t. laid t (length pre + 1) bytes) (set-at pre x s b (length pre) refl ∙ sym (append-assoc pre (b ∷ []) s))
+    ∙ ap (λ n. laid ((pre ++ (b ∷ [])) ++ s) n bytes) (sym (length-push pre b))
+    ∙ laid-after (pre ++ (b ∷ [])) s bytes (omega arith)
+    ∙ ap (λ p. p ++ drop (length bytes) s) (append-assoc pre (b ∷ []) bytes)
+
+-- a text that the sheet has room for, from its first byte on
+pub laid-front : (s bytes : List ℕ) → length bytes ≤ length s → laid s 0 bytes ≡ bytes ++ drop (length bytes) s
+laid-front s bytes h = laid-after [] s bytes h

@@ -8,3 +8,5 @@ pub mod Verdict
 pub mod Laid
 pub mod Aisled
 pub mod Lined
+pub mod Gapless
+pub mod Answered

@@ -16,3 +16,4 @@ mod sheet;
 mod site;
 pub mod stamp;
 mod words;
+pub mod write;
