@@ -10,3 +10,5 @@ pub mod Aisled
 pub mod Lined
 pub mod Gapless
 pub mod Answered
+pub mod Replying
+pub mod Taken

@@ -1,6 +1,7 @@
 // The bracket text: reading a book from bytes.
 mod aisles;
 mod bytes;
+pub mod canonical;
 pub mod counts;
 mod form;
 mod forms;
