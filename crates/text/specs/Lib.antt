@@ -11,4 +11,5 @@ pub mod Reads
 pub mod Written
 pub mod Spelt
 pub mod Writes
+pub mod Orders
 pub mod Replies

@@ -16,10 +16,22 @@ use Rattle.books.specs.declared.fault.Fault.{Fault}
 use Rattle.books.specs.declared.fault.Refusal.{Refusal}
 use Rattle.books.specs.declared.fault.Values.{Values}
 use Rattle.books.specs.declared.fault.Values.the-variants.{One, RuleLiteral}
-use Rattle.text.specs.Bytes.{andThen}
+use Rattle.books.specs.Faults.{refusalOf}
+use Rattle.books.specs.declared.fault.Fault.the-variants.{Reading}
+use Rattle.books.specs.declared.fault.ReadFault.the-variants.{TooMany}
+use Rattle.stamps.specs.Aisles.{partOf}
+use Rattle.stamps.specs.Levels.{level}
+use Rattle.stamps.specs.declared.tick.Tick.{Tick}
+use Rattle.stamps.specs.declared.route.Route.{Route}
+use Rattle.stamps.specs.declared.then.Then.{Then}
+use Rattle.text.specs.Bytes.{andThen, wrongAt}
+use Rattle.text.specs.Orders.{wordOf, orderRefused}
+use Rattle.text.specs.Stamps.{tickAt, routeAt, pairAt, tickWord, routeWord, thenWord}
+use Rattle.text.specs.declared.order.Word.{Word}
+use Rattle.text.specs.declared.order.Word.the-variants as word
 use Rattle.text.specs.Forms.{closing}
 use Rattle.text.specs.Reads.{bookAt, roomOf}
-use Rattle.text.specs.Spelt.{bookText, space}
+use Rattle.text.specs.Spelt.{bookText, space, tickText, routeText, pairText}
 use Rattle.text.specs.Writes.{bookGap, writeAnswer}
 
 -- "(no "
@@ -62,3 +74,44 @@ pub record Replied (found : Result (List ℕ) Fault) (answer : Result ℕ Fault)
   pub answered : answer ≡ lengthOf found
   pub sheet : new ≡ sheetWith found old
   pub fits : FitsOn found (length old)
+
+-- the two tests of each order that has a word
+abbrev pub tickBefore : Tick → Tick → Bool
+tickBefore a b = ltb (a .0) (b .0)
+
+abbrev pub tickNotAfter : Tick → Tick → Bool
+tickNotAfter a b = leb (a .0) (b .0)
+
+abbrev pub routeBefore : Route → Route → Bool
+routeBefore a b = partOf (a .aisles) (b .aisles) && not (partOf (b .aisles) (a .aisles))
+
+abbrev pub routeNotAfter : Route → Route → Bool
+routeNotAfter a b = partOf (a .aisles) (b .aisles)
+
+abbrev pub thenBefore : Then Tick Tick → Then Tick Tick → Bool
+thenBefore a b = tickBefore (a .first) (b .first) || (level tickNotAfter (a .first) (b .first) && tickBefore (a .second) (b .second))
+
+abbrev pub thenNotAfter : Then Tick Tick → Then Tick Tick → Bool
+thenNotAfter a b = tickBefore (a .first) (b .first) || (level tickNotAfter (a .first) (b .first) && tickNotAfter (a .second) (b .second))
+
+-- the choice that a word has in a table
+abbrev pub byWord : {X : Type 0} → Option Word → X → X → X → X → X
+byWord (Some word.Tick) t r h n = t
+byWord (Some word.Route) t r h n = r
+byWord (Some word.Then) t r h n = h
+byWord None t r h n = n
+
+-- the canonical text of an input, whatever its order; it has at most 65,536 bytes
+unfoldable pub programAt : List ℕ → ℕ → ℕ → ℕ → ℕ → ℕ → Result (List ℕ) Fault
+programAt text ticks routes pairs rules room =
+    cond (ltb 65536 (length text)) (Err (Reading (TooMany 0)))
+    (byWord (wordOf text)
+        (canonicalAt tickAt tickWord tickText tickBefore tickNotAfter text ticks rules room)
+        (canonicalAt routeAt routeWord routeText routeBefore routeNotAfter text routes rules room)
+        (canonicalAt pairAt thenWord pairText thenBefore thenNotAfter text pairs rules room)
+        (wrongAt (orderRefused text)))
+
+-- what the program writes: the canonical text, or one line with the refusal
+abbrev pub replyText : Result (List ℕ) Fault → List ℕ
+replyText (Ok text) = text
+replyText (Err e) = refusalText (refusalOf e)
