@@ -3,6 +3,8 @@ use books::fault::Fault;
 use books::fault::Refusal;
 use books::fault::Values;
 use makes::body::Body;
+use makes::flat::Flat;
+use makes::flat::FlatBook;
 use makes::rows::AtomRow;
 use makes::rows::RuleRow;
 use stamps::route::Route;
@@ -10,6 +12,8 @@ use stamps::then::Then;
 use stamps::tick::Tick;
 use text::counts::Counts;
 use text::read::read;
+use text::reply::reply;
+use text::write::write;
 use text::stamp::RouteSpelled;
 use text::stamp::Spelled;
 use text::stamp::ThenSpelled;
@@ -150,10 +154,39 @@ fn undeclared(text: &[u8], rule: usize, literal: usize) -> bool {
     }
 }
 
+// What the program prints for an input, compared with what is expected.
+fn replies(text: &[u8], expected: &[u8]) -> bool {
+    let mut ticks = [mark_row::<TickMark>(); 8];
+    let mut routes = [mark_row::<RouteMark>(); 8];
+    let mut pairs = [mark_row::<ThenMark>(); 8];
+    let mut rules = [mark_rule(); 8];
+    let mut sheet = [b'#'; 512];
+    let length = reply(text, &mut ticks, &mut routes, &mut pairs, &mut rules, &mut sheet);
+    if length > sheet.len() {
+        return false;
+    }
+    begins_with(&sheet, expected, length)
+}
+
+// The first `length` bytes of the sheet are the expected ones, and the rest are as they were.
+fn begins_with(sheet: &[u8], expected: &[u8], length: usize) -> bool {
+    if expected.len() != length {
+        return false;
+    }
+    for (i, byte) in sheet.iter().enumerate() {
+        let wanted = if i < expected.len() { expected[i] } else { b'#' };
+        if *byte != wanted {
+            return false;
+        }
+    }
+    true
+}
+
 #[cfg(test)]
 mod tests {
     use super::*;
     use books::fault::FaultDebug;
+    use books::fault::ValuesPartialEq;
     use std::test::*;
 
     #[test]
@@ -291,5 +324,74 @@ mod tests {
         check(counts.atoms == 2 && counts.rules == 0)?;
         check(atoms[0].reading && atoms[0].stamp.aisles == 0)?;
         check(atoms[1].stamp.aisles == 9223372036854775813)
+    }
+
+    #[test]
+    fn canonical_texts_come_back() -> Result<(), Fail> {
+        let ticks = b"(order tick)\n(atom 0 in 1)\n(atom 1 out 4294967295)\n(rule 0 1 (0) (0 0))\n(void 1)\n(end)\n";
+        check(replies(ticks, ticks))?;
+        let routes = b"(order route)\n(atom 0 in ())\n(atom 1 out (0 2 10 63))\n(rule 0 1 () (0))\n(end)\n";
+        check(replies(routes, routes))?;
+        let pairs = b"(order then)\n(atom 0 out (0 0))\n(atom 1 out (3 20))\n(rule 0 1 (0 1) (0))\n(end)\n";
+        check(replies(pairs, pairs))?;
+        let empty = b"(order tick)\n(end)\n";
+        check(replies(empty, empty))
+    }
+
+    #[test]
+    fn leading_zeros_go() -> Result<(), Fail> {
+        check(replies(
+            b"(order tick)\n(atom 00 out 0000000100)\n(rule 000 0 (00) ())\n(end)\n",
+            b"(order tick)\n(atom 0 out 100)\n(rule 0 0 (0) ())\n(end)\n",
+        ))?;
+        check(replies(
+            b"(order route)\n(atom 0 in (00 063))\n(end)\n",
+            b"(order route)\n(atom 0 in (0 63))\n(end)\n",
+        ))
+    }
+
+    #[test]
+    fn refusals_are_one_line() -> Result<(), Fail> {
+        check(replies(b"", b"(no 1 0)\n"))?;
+        check(replies(b"(order tx", b"(no 1 8)\n"))?;
+        check(replies(b"(order thex", b"(no 1 10)\n"))?;
+        check(replies(b"(order tick)\n(atom 7 in 1)\n", b"(no 2 19)\n"))?;
+        check(replies(b"(order tick)\n(atom 0 out 1)\n(rule 0 0 (4) ())\n", b"(no 4 0 1)\n"))?;
+        check(replies(
+            b"(order tick)\n(atom 0 in 1)\n(rule 0 0 () ())\n(end)\n",
+            b"(no 5 0 0)\n",
+        ))?;
+        check(replies(
+            b"(order tick)\n(atom 0 out 5)\n(atom 1 out 6)\n(rule 0 0 (1) ())\n(end)\n",
+            b"(no 6 0 1)\n",
+        ))?;
+        check(replies(
+            b"(order tick)\n(atom 0 out 5)\n(rule 0 0 () (0))\n(end)\n",
+            b"(no 7 0 1)\n",
+        ))
+    }
+
+    #[test]
+    fn a_sheet_one_byte_too_short() -> Result<(), Fail> {
+        let rows = [AtomRow {
+            stamp: Tick(10),
+            reading: true,
+        }];
+        let book = Flat {
+            atoms: &rows,
+            rules: &[],
+        };
+        let text = b"(order tick)\n(atom 0 in 10)\n(end)\n";
+        let mut sheet = [b'#'; 33];
+        let fault = match write(&book, &mut sheet) {
+            Ok(_) => return Err(Fail::new("the sheet is too short")),
+            Err(fault) => fault,
+        };
+        let refusal = fault.refusal();
+        check(refusal.number == 17 && refusal.values == Values::One(34))?;
+        check(begins_with(&sheet, b"", 0))?;
+        let mut longer = [b'#'; 40];
+        let length = write(&book, &mut longer)?;
+        check(length == 34 && begins_with(&longer, text, length))
     }
 }
