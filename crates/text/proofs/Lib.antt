@@ -7,8 +7,3 @@ pub mod Filled
 pub mod Verdict
 pub mod Laid
 pub mod Aisled
-pub mod Lined
-pub mod Gapless
-pub mod Answered
-pub mod Replying
-pub mod Taken

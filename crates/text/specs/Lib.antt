@@ -10,6 +10,4 @@ pub mod Forms
 pub mod Reads
 pub mod Written
 pub mod Spelt
-pub mod Writes
 pub mod Orders
-pub mod Replies

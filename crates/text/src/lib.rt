@@ -1,22 +1,17 @@
-// The bracket text: reading a book from bytes.
+// The bracket text: reading a book from bytes, and the words, numbers and stamps of its canonical spelling.
 mod aisles;
 mod bytes;
-pub mod canonical;
 pub mod counts;
 mod form;
 mod forms;
-mod gaps;
 mod kind;
-mod lines;
 mod lists;
 mod numbers;
-mod order;
+pub mod order;
 pub mod read;
 mod reader;
-pub mod reply;
 mod rule;
-mod sheet;
+pub mod sheet;
 mod site;
 pub mod stamp;
 mod words;
-pub mod write;

@@ -10,14 +10,15 @@ use makes::rows::RuleRow;
 use stamps::route::Route;
 use stamps::then::Then;
 use stamps::tick::Tick;
+use stamps::tick::TickOrder;
 use text::counts::Counts;
 use text::read::read;
-use text::reply::reply;
-use text::write::write;
 use text::stamp::RouteSpelled;
 use text::stamp::Spelled;
 use text::stamp::ThenSpelled;
 use text::stamp::TickSpelled;
+use writing::reply::reply;
+use writing::write::write;
 
 // A stamp that stands in the tables before a text is read.
 trait Mark: Spelled {
