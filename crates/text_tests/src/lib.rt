@@ -395,4 +395,33 @@ mod tests {
         let length = write(&book, &mut longer)?;
         check(length == 34 && begins_with(&longer, text, length))
     }
+
+    #[test]
+    fn the_last_atom_form_and_one_more() -> Result<(), Fail> {
+        let row = AtomRow {
+            stamp: Tick(1),
+            reading: true,
+        };
+        let rows = [row; 1024];
+        let book = Flat {
+            atoms: &rows,
+            rules: &[],
+        };
+        let mut sheet = [0u8; 32768];
+        let length = write(&book, &mut sheet)?;
+        check(length > 6 && length < 32000)?;
+        let mut atoms = [row; 1100];
+        let mut rules = [None; 1];
+        let counts = read::<Tick>(&sheet[0..length], &mut atoms, &mut rules)?;
+        check(counts.atoms == 1024 && counts.rules == 0)?;
+        // A form in place of the end, told before its number is looked at.
+        let end = length - 6;
+        for (i, byte) in b"(atom x".iter().enumerate() {
+            sheet[end + i] = *byte;
+        }
+        match read::<Tick>(&sheet[0..length], &mut atoms, &mut rules) {
+            Ok(_) => Err(Fail::new("a form too many")),
+            Err(fault) => check(fault.refusal().number == 3 && fault.refusal().values == Values::One(end)),
+        }
+    }
 }
