@@ -15,7 +15,7 @@ use Rattle.books.specs.Meaning.{Rule, Atom, Meaning, bindSome, ruleAt, literal
 use Rattle.books.specs.Check.{firstBelow, literalFault, bodyFault, headFault, ruleFault, bookFault}
 use Rattle.books.specs.Judged.{OfRule, OfLiteral, Fails, Breaks, ruleOf, stepOf, ofCounts}
 use Rattle.books.specs.declared.fault.CheckFault.{CheckFault}
-use Rattle.books.specs.declared.fault.CheckFault.the-variants.{TooLarge, BodyTooLong, HeadMissing, HeadIsReading, LiteralMissing, PositiveOutOfOrder, NegativeOutOfOrder, SlotMissing, RuleMissing}
+use Rattle.books.specs.declared.fault.CheckFault.the-variants.{TooLarge, BodyTooLong, HeadMissing, HeadIsReading, LiteralMissing, PositiveOutOfOrder, NegativeOutOfOrder, SlotMissing, RuleMissing, SheetTooShort}
 use Rattle.books.proofs.First.{first-at, first-none}
 use Rattle.books.proofs.Places.{nth-some, nth-none, mapped-some, mapped-none}
 use Rattle.books.proofs.Stamps.{faultBy, AtFault, missing, positive, negative, literal-none, literal-some}
@@ -66,6 +66,7 @@ module _ {S : Type 0} (before notAfter : S → S → Bool) (m : Meaning S) where
       clash (before (f .0) (f .1)) (ok .1 (w .2 .2 .0)) (f .4)
   unbroken r n p (SlotMissing k l) c at s b = b
   unbroken r n p (RuleMissing k) c at s b = b
+  unbroken r n p (SheetTooShort k) c at s b = b
 
   -- a rule's outcome: all tests pass, or the fault is so and all tests before it pass
   abbrev pub Outcome : ℕ → Rule → Option CheckFault → Type 0

@@ -18,7 +18,7 @@ use Rattle.books.specs.Meaning.{Rule, Atom, Meaning, bindSome, ruleAt, literal
 use Rattle.books.specs.Check.{firstBelow, headFault, ruleFault, bookFault, unless}
 use Rattle.books.specs.Judged.{relates, bothPass, SoundRule, Sound, Breaks, Precedes, ruleOf, stepOf, ofCounts, Judged}
 use Rattle.books.specs.declared.fault.CheckFault.{CheckFault}
-use Rattle.books.specs.declared.fault.CheckFault.the-variants.{TooLarge, BodyTooLong, HeadMissing, HeadIsReading, LiteralMissing, PositiveOutOfOrder, NegativeOutOfOrder, SlotMissing, RuleMissing}
+use Rattle.books.specs.declared.fault.CheckFault.the-variants.{TooLarge, BodyTooLong, HeadMissing, HeadIsReading, LiteralMissing, PositiveOutOfOrder, NegativeOutOfOrder, SlotMissing, RuleMissing, SheetTooShort}
 use Rattle.books.specs.declared.fault.Fault.{Fault}
 use Rattle.books.specs.declared.fault.Fault.the-variants.{Checking}
 use Rattle.books.proofs.First.{first-at, first-none}
@@ -119,6 +119,7 @@ module _ {S : Type 0} (before notAfter : S → S → Bool) (m : Meaning S) where
   broken-where (NegativeOutOfOrder k l) b = inr (refl, (b .0, b .1))
   broken-where (SlotMissing p l) b = absurd b
   broken-where (RuleMissing k) b = absurd b
+  broken-where (SheetTooShort n) b = absurd b
 
   -- within the counts, a fault breaks a rule that then does not pass its step
   module _ (atoms : length (m .atoms) ≤ 1024) (rules : length (m .rules) ≤ 1024) where

@@ -3,10 +3,12 @@ use Prim.Native.Nat.{ℕ}
 use Rattle.books.specs.declared.fault.Layer.{Layer}
 use Rattle.books.specs.declared.fault.Layer.the-variants.{Reading, Checking, Running}
 use Rattle.books.specs.declared.fault.Values.{Values}
-use Rattle.books.specs.declared.fault.Values.the-variants.{RuleLiteral}
+use Rattle.books.specs.declared.fault.Values.the-variants.{One, RuleLiteral}
 use Rattle.books.specs.declared.fault.Refusal.{Refusal}
+use Rattle.books.specs.declared.fault.ReadFault.{ReadFault}
+use Rattle.books.specs.declared.fault.ReadFault.the-variants.{Byte, Number, TooMany, AtomMissing}
 use Rattle.books.specs.declared.fault.CheckFault.{CheckFault}
-use Rattle.books.specs.declared.fault.CheckFault.the-variants.{TooLarge, BodyTooLong, HeadMissing, HeadIsReading, LiteralMissing, PositiveOutOfOrder, NegativeOutOfOrder, SlotMissing, RuleMissing}
+use Rattle.books.specs.declared.fault.CheckFault.the-variants.{TooLarge, BodyTooLong, HeadMissing, HeadIsReading, LiteralMissing, PositiveOutOfOrder, NegativeOutOfOrder, SlotMissing, RuleMissing, SheetTooShort}
 use Rattle.books.specs.declared.fault.Fault.{Fault}
 use Rattle.books.specs.declared.fault.Fault.the-variants as fault
 
@@ -24,6 +26,18 @@ checkRefusal (PositiveOutOfOrder rule literal) = checkingAt 6 rule literal
 checkRefusal (NegativeOutOfOrder rule literal) = checkingAt 7 rule literal
 checkRefusal (SlotMissing pattern literal) = checkingAt 4 pattern literal
 checkRefusal (RuleMissing rule) = checkingAt 4 rule 0
+checkRefusal (SheetTooShort needed) = record { layer = Checking; number = 17; values = One needed }
+
+-- a refusal of the reader, with what it names
+abbrev pub readingAt : ℕ → Values → Refusal
+readingAt number values = record { layer = Reading; number = number; values = values }
+
+abbrev pub readRefusal : ReadFault → Refusal
+readRefusal (Byte place) = readingAt 1 (One place)
+readRefusal (Number place) = readingAt 2 (One place)
+readRefusal (TooMany place) = readingAt 3 (One place)
+readRefusal (AtomMissing rule literal) = readingAt 4 (RuleLiteral rule literal)
 
 abbrev pub refusalOf : Fault → Refusal
+refusalOf (fault.Reading f) = readRefusal f
 refusalOf (fault.Checking f) = checkRefusal f

@@ -12,7 +12,7 @@ use Rattle.std.specs.declared.result.Result.{Result}
 use Rattle.std.specs.declared.result.Result.the-variants.{Ok, Err}
 use Rattle.books.specs.Meaning.{Rule, Meaning, ruleAt, literals, stampOf, readingOf}
 use Rattle.books.specs.declared.fault.CheckFault.{CheckFault}
-use Rattle.books.specs.declared.fault.CheckFault.the-variants.{TooLarge, BodyTooLong, HeadMissing, HeadIsReading, LiteralMissing, PositiveOutOfOrder, NegativeOutOfOrder, SlotMissing, RuleMissing}
+use Rattle.books.specs.declared.fault.CheckFault.the-variants.{TooLarge, BodyTooLong, HeadMissing, HeadIsReading, LiteralMissing, PositiveOutOfOrder, NegativeOutOfOrder, SlotMissing, RuleMissing, SheetTooShort}
 use Rattle.books.specs.declared.fault.Fault.{Fault}
 use Rattle.books.specs.declared.fault.Fault.the-variants.{Checking}
 
@@ -53,7 +53,7 @@ OfLiteral m k l P = OfRule m k (λ r. (i : ℕ) × (l ≡ i + 1) × ((a : ℕ) �
 abbrev pub Fails : {S : Type 0} → (S → S → Bool) → Meaning S → ℕ → ℕ → Type 0
 Fails {S} test m a b = (s : S) × (t : S) × (stampOf m a ≡ Some s) × (stampOf m b ≡ Some t) × (test s t ≡ false)
 
--- what a fault says of a book; faults of makings and of striking say nothing of one
+-- what a fault says of a book; faults of making, striking and writing say nothing of one
 abbrev pub Breaks : {S : Type 0} → (S → S → Bool) → (S → S → Bool) → Meaning S → CheckFault → Type 0
 Breaks before notAfter m TooLarge = (1024 < length (m .atoms)) ⊎ (1024 < length (m .rules))
 Breaks before notAfter m (BodyTooLong k) = OfRule m k (λ r. (6 < length (r .positives)) ⊎ (6 < length (r .negatives)))
@@ -64,6 +64,7 @@ Breaks before notAfter m (PositiveOutOfOrder k l) = OfLiteral m k l (λ r i a. (
 Breaks before notAfter m (NegativeOutOfOrder k l) = OfLiteral m k l (λ r i a. (length (r .positives) ≤ i) × Fails before m a (r .head))
 Breaks before notAfter m (SlotMissing p l) = ⊥
 Breaks before notAfter m (RuleMissing k) = ⊥
+Breaks before notAfter m (SheetTooShort n) = ⊥
 
 -- the rule in which a fault lies
 abbrev pub ruleOf : CheckFault → ℕ
@@ -76,6 +77,7 @@ ruleOf (PositiveOutOfOrder k l) = k
 ruleOf (NegativeOutOfOrder k l) = k
 ruleOf (SlotMissing p l) = 0
 ruleOf (RuleMissing k) = 0
+ruleOf (SheetTooShort n) = 0
 
 -- in which order a rule is tested: lengths, head there, head no reading, then of each literal that it is there and its stamp
 abbrev pub stepOf : CheckFault → ℕ
@@ -88,6 +90,7 @@ stepOf (PositiveOutOfOrder k l) = 2 * l + 2
 stepOf (NegativeOutOfOrder k l) = 2 * l + 2
 stepOf (SlotMissing p l) = 0
 stepOf (RuleMissing k) = 0
+stepOf (SheetTooShort n) = 0
 
 -- whether the fault is one of the counts
 abbrev pub ofCounts : CheckFault → Bool
@@ -100,6 +103,7 @@ ofCounts (PositiveOutOfOrder k l) = false
 ofCounts (NegativeOutOfOrder k l) = false
 ofCounts (SlotMissing p l) = false
 ofCounts (RuleMissing k) = false
+ofCounts (SheetTooShort n) = false
 
 -- the first fault is looked for before the second: counts, then rules by number, then the steps in a rule
 abbrev pub Precedes : CheckFault → CheckFault → Type 0

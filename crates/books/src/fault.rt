@@ -14,6 +14,7 @@ pub enum Layer {
 // What comes back with a refusal's number.
 #[derive(Clone, Copy, PartialEq, Eq, Debug)]
 pub enum Values {
+    One(usize),
     RuleLiteral(usize, usize),
 }
 
@@ -25,7 +26,16 @@ pub struct Refusal {
     pub values: Values,
 }
 
-// What the check refuses, and the making and striking of books. Literals count from 1, positives first.
+// What the reader of a text refuses. Places count bytes from 0; a rule's head is literal 0.
+#[derive(Clone, Copy, PartialEq, Eq, Debug)]
+pub enum ReadFault {
+    Byte { place: usize },
+    Number { place: usize },
+    TooMany { place: usize },
+    AtomMissing { rule: usize, literal: usize },
+}
+
+// What the check refuses, and the making, striking and writing of books. Literals count from 1, positives first.
 #[derive(Clone, Copy, PartialEq, Eq, Debug)]
 pub enum CheckFault {
     TooLarge,
@@ -37,11 +47,13 @@ pub enum CheckFault {
     NegativeOutOfOrder { rule: usize, literal: usize },
     SlotMissing { pattern: usize, literal: usize },
     RuleMissing { rule: usize },
+    SheetTooShort { needed: usize },
 }
 
 // Every refusal of the product, by layer.
 #[derive(Clone, Copy, PartialEq, Eq, Debug)]
 pub enum Fault {
+    Reading(ReadFault),
     Checking(CheckFault),
 }
 
@@ -51,22 +63,36 @@ impl Fault {
         ensures { λ r. ⌜ r ≡ refusalOf (now (self .entry)) ⌝ }
     {
         match self {
+            Fault::Reading(fault) => {
+                let (number, values) = match *fault {
+                    ReadFault::Byte { place } => (1, Values::One(place)),
+                    ReadFault::Number { place } => (2, Values::One(place)),
+                    ReadFault::TooMany { place } => (3, Values::One(place)),
+                    ReadFault::AtomMissing { rule, literal } => (4, Values::RuleLiteral(rule, literal)),
+                };
+                Refusal {
+                    layer: Layer::Reading,
+                    number,
+                    values,
+                }
+            }
             Fault::Checking(fault) => {
-                let (number, rule, literal) = match *fault {
-                    CheckFault::TooLarge => (3, 0, 0),
-                    CheckFault::BodyTooLong { rule } => (3, rule, 0),
-                    CheckFault::HeadMissing { rule } => (4, rule, 0),
-                    CheckFault::HeadIsReading { rule } => (5, rule, 0),
-                    CheckFault::LiteralMissing { rule, literal } => (4, rule, literal),
-                    CheckFault::PositiveOutOfOrder { rule, literal } => (6, rule, literal),
-                    CheckFault::NegativeOutOfOrder { rule, literal } => (7, rule, literal),
-                    CheckFault::SlotMissing { pattern, literal } => (4, pattern, literal),
-                    CheckFault::RuleMissing { rule } => (4, rule, 0),
+                let (number, values) = match *fault {
+                    CheckFault::TooLarge => (3, Values::RuleLiteral(0, 0)),
+                    CheckFault::BodyTooLong { rule } => (3, Values::RuleLiteral(rule, 0)),
+                    CheckFault::HeadMissing { rule } => (4, Values::RuleLiteral(rule, 0)),
+                    CheckFault::HeadIsReading { rule } => (5, Values::RuleLiteral(rule, 0)),
+                    CheckFault::LiteralMissing { rule, literal } => (4, Values::RuleLiteral(rule, literal)),
+                    CheckFault::PositiveOutOfOrder { rule, literal } => (6, Values::RuleLiteral(rule, literal)),
+                    CheckFault::NegativeOutOfOrder { rule, literal } => (7, Values::RuleLiteral(rule, literal)),
+                    CheckFault::SlotMissing { pattern, literal } => (4, Values::RuleLiteral(pattern, literal)),
+                    CheckFault::RuleMissing { rule } => (4, Values::RuleLiteral(rule, 0)),
+                    CheckFault::SheetTooShort { needed } => (17, Values::One(needed)),
                 };
                 Refusal {
                     layer: Layer::Checking,
                     number,
-                    values: Values::RuleLiteral(rule, literal),
+                    values,
                 }
             }
         }
@@ -87,10 +113,11 @@ pub impl fmt::Display for Refusal as RefusalDisplay {
     fn fmt<W: fmt::Write>(&self, f: &mut fmt::Formatter<W>) -> fmt::Result {
         let layer = self.layer;
         let number = self.number;
-        let Values::RuleLiteral(rule, literal) = self.values;
-        write!(
-            f,
-            "refusal {number} ({layer}) at rule {rule}, literal {literal}"
-        )
+        match self.values {
+            Values::One(value) => write!(f, "refusal {number} ({layer}): {value}"),
+            Values::RuleLiteral(rule, literal) => {
+                write!(f, "refusal {number} ({layer}) at rule {rule}, literal {literal}")
+            }
+        }
     }
 }

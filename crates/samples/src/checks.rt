@@ -3,6 +3,7 @@ use crate::plain::Plain;
 use crate::plain::PlainBook;
 use books::book::Book;
 use books::check::check;
+use books::fault::Fault;
 use books::fault::Values;
 use makes::flat::Flat;
 use makes::flat::FlatBook;
@@ -14,15 +15,20 @@ use stamps::tick::Tick;
 use stamps::tick::TickOrder;
 use std::test::*;
 
-// The refusal's number, rule and literal; none where the book passes.
+// A refusal's number, rule and literal; a refusal with one value has that and 0.
+pub(crate) fn refused(fault: Fault) -> (u8, usize, usize) {
+    let refusal = fault.refusal();
+    match refusal.values {
+        Values::RuleLiteral(rule, literal) => (refusal.number, rule, literal),
+        Values::One(value) => (refusal.number, value, 0),
+    }
+}
+
+// What the check refuses the book with; none where it passes.
 pub(crate) fn told<B: Book>(book: &B) -> Option<(u8, usize, usize)> {
     match check(book) {
         Ok(()) => None,
-        Err(fault) => {
-            let refusal = fault.refusal();
-            let Values::RuleLiteral(rule, literal) = refusal.values;
-            Some((refusal.number, rule, literal))
-        }
+        Err(fault) => Some(refused(fault)),
     }
 }
 

@@ -1,9 +1,8 @@
 // Tests of the repeating and the struck book.
+use crate::checks::refused;
 use crate::checks::told;
 use books::book::Book;
-use books::fault::Fault;
 use books::fault::FaultDebug;
-use books::fault::Values;
 use makes::body::Body;
 use makes::patterns::Pattern;
 use makes::patterns::Slot;
@@ -22,13 +21,6 @@ use stamps::tick::TickDebug;
 use stamps::tick::TickOrder;
 use stamps::tick::TickPartialEq;
 use std::test::*;
-
-// The number, rule and literal of a refusal.
-fn refused(fault: Fault) -> (u8, usize, usize) {
-    let refusal = fault.refusal();
-    let Values::RuleLiteral(rule, literal) = refusal.values;
-    (refusal.number, rule, literal)
-}
 
 fn step(slot: usize, back: usize) -> Step {
     Step { slot, back }

@@ -1,0 +1,13 @@
+pub mod Bytes
+pub mod Turns
+pub mod Numbers
+pub mod Lists
+pub mod Words
+pub mod Stamps
+pub mod Kinds
+pub mod Rules
+pub mod Forms
+pub mod Reads
+pub mod Written
+pub mod Spelt
+pub mod Orders

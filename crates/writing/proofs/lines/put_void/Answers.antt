@@ -1,0 +1,9 @@
+use native.Mathlib.Omega.{arith}
+use Rattle.text.proofs.Laid.{wrote-then}
+use Rattle.writing.proofs.lines.put_void.Needs as need
+
+pub returns : need.returns
+returns c =
+    record {
+      wrote = wrote-then (wrote-then (c .put-at .ensures) (c .put-number-at .ensures .wrote)) (c .put .ensures);
+      short = omega (arith, c .put-at .ensures .place, c .put-number-at .ensures .short, c .put .ensures .place) }
