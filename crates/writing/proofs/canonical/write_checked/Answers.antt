@@ -14,7 +14,7 @@ returns-in-Break-check g c =
     let text = bookText (g .Stamp·Spelled .spelling) (g .Stamp·Spelled .spelt) m in
     let p = err-from-errBy (c .from-residual .result) (c .from-residual .ensures .1) in
     replied-refused _ _ (c .args .sheet .now) (c .from-residual .result)
-    (ap (λ r. andThen r (λ _. andThen (writeAnswer (bookGap m) (length text) (length (c .args .sheet .now))) (λ _. Ok text))) (c .in-Break-check .ensures tt))
+    (ap (λ r. andThen r (λ _. andThen (writeAnswer (bookGap m) (length text) (length (c .args .sheet .now))) (λ _. Ok text))) (c .in-Break-check .ensures tt .answer))
     (p .1 ∙ ap Err (p .2))
 
 pub returns : need.returns
@@ -22,5 +22,5 @@ returns g c =
     let m = g .B·Book .meaning (c .args .book .now) in
     let text = bookText (g .Stamp·Spelled .spelling) (g .Stamp·Spelled .spelt) m in
     replied-as _ _ _ _ _
-    (ap (λ r. andThen r (λ _. andThen (writeAnswer (bookGap m) (length text) (length (c .args .sheet .now))) (λ _. Ok text))) (c .in-Continue-check .ensures tt))
+    (ap (λ r. andThen r (λ _. andThen (writeAnswer (bookGap m) (length text) (length (c .args .sheet .now))) (λ _. Ok text))) (c .in-Continue-check .ensures tt .answer))
     (replied-written text (c .args .sheet .now) _ (bookGap m) _ (c .write .ensures .answer) (c .write .ensures .sheet))
