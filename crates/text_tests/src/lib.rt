@@ -424,4 +424,16 @@ mod tests {
             Err(fault) => check(fault.refusal().number == 3 && fault.refusal().values == Values::One(end)),
         }
     }
+
+    #[test]
+    fn a_closed_aisle_comes_back() -> Result<(), Fail> {
+        let book = b"(order tick)\n(atom 0 in 1)\n(atom 1 in 1)\n(atom 2 out 2)\n(atom 3 out 3)\n(atom 4 out 4)\n(rule 0 2 (0) ())\n(rule 1 3 (1) (2))\n(rule 2 4 () (3))\n(end)\n";
+        check(replies(book, book))
+    }
+
+    #[test]
+    fn a_reroute_comes_back() -> Result<(), Fail> {
+        let book = b"(order route)\n(atom 0 in ())\n(atom 1 in (3))\n(atom 2 out (3 4))\n(atom 3 out (3 4))\n(atom 4 out (3 4 5))\n(rule 0 2 (0 3) ())\n(rule 1 3 (0 2) ())\n(rule 2 2 (0) (1))\n(rule 3 4 (2 3) (1))\n(end)\n";
+        check(replies(book, book))
+    }
 }
