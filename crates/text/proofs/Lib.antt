@@ -7,3 +7,4 @@ pub mod Filled
 pub mod Verdict
 pub mod Laid
 pub mod Aisled
+pub mod ReadsBack

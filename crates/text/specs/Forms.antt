@@ -43,6 +43,7 @@ lineOf (form.Atom row) = atomLine (atomOf row)
 lineOf (form.Rule row) = ruleLine (mapped ruleOf row)
 lineOf form.End = endLine
 
+-- the same, of an answer that may be a fault
 abbrev pub lined : {S : Type 0} → Result (Form S × ℕ) Fault → Result (Line S × ℕ) Fault
 lined (Ok p) = Ok (lineOf (p .0), p .1)
 lined (Err e) = Err e

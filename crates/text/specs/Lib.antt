@@ -11,3 +11,4 @@ pub mod Reads
 pub mod Written
 pub mod Spelt
 pub mod Orders
+pub mod ReadBack

@@ -37,6 +37,7 @@ movedBy r (atomLine a) next = record { stage = Atoms; next = next; atoms = r .at
 movedBy r (ruleLine o) next = record { stage = Rules; next = next; atoms = r .atoms; rules = r .rules + 1 }
 movedBy r endLine next = record { stage = End; next = next; atoms = r .atoms; rules = r .rules }
 
+-- whether the stage is past the end
 abbrev pub isEnd : Stage → Bool
 isEnd Start = false
 isEnd Atoms = false
@@ -53,22 +54,25 @@ pub record Progress (S : Type 0) : Type 0 where
   pub atoms : List (Atom S)
   pub rules : List (Option Rule)
 
--- a form adds its atom or rule
+-- a form adds its atom
 abbrev pub atomsBy : {S : Type 0} → List (Atom S) → Line S → List (Atom S)
 atomsBy atoms orderLine = atoms
 atomsBy atoms (atomLine a) = atoms ++ (a ∷ [])
 atomsBy atoms (ruleLine o) = atoms
 atomsBy atoms endLine = atoms
 
+-- a form adds its rule number
 abbrev pub rulesBy : {S : Type 0} → List (Option Rule) → Line S → List (Option Rule)
 rulesBy rules orderLine = rules
 rulesBy rules (atomLine a) = rules
 rulesBy rules (ruleLine o) = rules ++ (o ∷ [])
 rulesBy rules endLine = rules
 
+-- what is read and where the reader stands, after a form
 abbrev pub after : {S : Type 0} → Progress S → Line S × ℕ → Progress S
 after s p = record { reader = movedBy (s .reader) (p .0) (p .1); atoms = atomsBy (s .atoms) (p .0); rules = rulesBy (s .rules) (p .0) }
 
+-- nothing is read
 abbrev pub startProgress : {S : Type 0} → Progress S
 startProgress = record { reader = startReader; atoms = []; rules = [] }
 
@@ -100,13 +104,14 @@ Roomy room r (form.Atom row) = r .atoms < room .atoms
 Roomy room r (form.Rule row) = r .rules < room .rules
 Roomy room r form.End = Unit {0}
 
--- the tables with what a form says
+-- the table of atoms with what a form says
 abbrev pub putAtom : {S : Type 0} → ℕ → List (AtomRow S) → Form S → List (AtomRow S)
 putAtom i rows form.Order = rows
 putAtom i rows (form.Atom row) = set rows i row
 putAtom i rows (form.Rule row) = rows
 putAtom i rows form.End = rows
 
+-- the table of rules with what a form says
 abbrev pub putRule : {S : Type 0} → ℕ → List (Option RuleRow) → Form S → List (Option RuleRow)
 putRule i rows form.Order = rows
 putRule i rows (form.Atom row) = rows

@@ -20,13 +20,15 @@ unfoldable pub upTo : (ℕ → List ℕ) → ℕ → List ℕ
 upTo f zero = []
 upTo f (suc n) = upTo f n ++ f n
 
--- " ", "(" and ")"
+-- " "
 abbrev pub space : List ℕ
 space = 32 ∷ []
 
+-- "("
 abbrev pub opening : List ℕ
 opening = 40 ∷ []
 
+-- ")"
 abbrev pub shutting : List ℕ
 shutting = 41 ∷ []
 
@@ -39,9 +41,11 @@ item i (Some a) = cond (eqb i 0) [] space ++ decimal a
 abbrev pub listText : List ℕ → List ℕ
 listText xs = opening ++ upTo (λ i. item i (nth xs i)) (length xs) ++ shutting
 
+-- a tick is its number
 abbrev pub tickText : Tick → List ℕ
 tickText t = decimal (t .0)
 
+-- two ticks in brackets
 abbrev pub pairText : Then Tick Tick → List ℕ
 pairText p = opening ++ decimal (p .first .0) ++ space ++ decimal (p .second .0) ++ shutting
 
@@ -72,10 +76,11 @@ ruleText k (Some r) =
 abbrev pub endText : List ℕ
 endText = 40 ∷ 101 ∷ 110 ∷ 100 ∷ 41 ∷ 10 ∷ []
 
--- the line of an atom number, and of a rule number
+-- the line of an atom number
 abbrev pub atomLineOf : {S : Type 0} → (S → List ℕ) → Meaning S → ℕ → List ℕ
 atomLineOf spelt m i = atomText spelt i (nth (m .atoms) i)
 
+-- the line of a rule number
 abbrev pub ruleLineOf : {S : Type 0} → Meaning S → ℕ → List ℕ
 ruleLineOf m k = ruleText k (ruleAt m k)
 

@@ -52,12 +52,14 @@ aislesAt text q = tries (oneAisle text) (noAisle q) 65
 abbrev pub routeAt : List ℕ → ℕ → Result (Route × ℕ) Fault
 routeAt text at = andThen (openAt text at) (λ q. andThen (aislesAt text q) (λ s. Ok (record { aisles = s .aisles }, s .next)))
 
--- tick, route, then
+-- "tick"
 abbrev pub tickWord : List ℕ
 tickWord = 116 ∷ 105 ∷ 99 ∷ 107 ∷ []
 
+-- "route"
 abbrev pub routeWord : List ℕ
 routeWord = 114 ∷ 111 ∷ 117 ∷ 116 ∷ 101 ∷ []
 
+-- "then"
 abbrev pub thenWord : List ℕ
 thenWord = 116 ∷ 104 ∷ 101 ∷ 110 ∷ []

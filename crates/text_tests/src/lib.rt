@@ -1,4 +1,6 @@
 // Tests of the bracket text, which are many.
+mod seven;
+
 use books::fault::Fault;
 use books::fault::Refusal;
 use books::fault::Values;
@@ -186,6 +188,8 @@ fn begins_with(sheet: &[u8], expected: &[u8], length: usize) -> bool {
 #[cfg(test)]
 mod tests {
     use super::*;
+    use crate::seven::Seven;
+    use crate::seven::SevenBook;
     use books::fault::FaultDebug;
     use books::fault::ValuesPartialEq;
     use std::test::*;
@@ -423,5 +427,45 @@ mod tests {
             Ok(_) => Err(Fail::new("a form too many")),
             Err(fault) => check(fault.refusal().number == 3 && fault.refusal().values == Values::One(end)),
         }
+    }
+
+    #[test]
+    fn a_closed_aisle_comes_back() -> Result<(), Fail> {
+        let book = b"(order tick)\n(atom 0 in 1)\n(atom 1 in 1)\n(atom 2 out 2)\n(atom 3 out 3)\n(atom 4 out 4)\n(rule 0 2 (0) ())\n(rule 1 3 (1) (2))\n(rule 2 4 () (3))\n(end)\n";
+        check(replies(book, book))
+    }
+
+    #[test]
+    fn a_reroute_comes_back() -> Result<(), Fail> {
+        let book = b"(order route)\n(atom 0 in ())\n(atom 1 in (3))\n(atom 2 out (3 4))\n(atom 3 out (3 4))\n(atom 4 out (3 4 5))\n(rule 0 2 (0 3) ())\n(rule 1 3 (0 2) ())\n(rule 2 2 (0) (1))\n(rule 3 4 (2 3) (1))\n(end)\n";
+        check(replies(book, book))
+    }
+
+    #[test]
+    fn a_list_of_seven_is_not_written() -> Result<(), Fail> {
+        let mut sheet = [b'#'; 200];
+        let refused = match write(&Seven, &mut sheet) {
+            Ok(_) => return Err(Fail::new("seven atoms in a list")),
+            Err(fault) => fault.refusal(),
+        };
+        check(refused.number == 3 && refused.values == Values::RuleLiteral(0, 0))?;
+        check(begins_with(&sheet, b"", 0))
+    }
+
+    #[test]
+    fn a_head_that_is_not_there_is_not_written() -> Result<(), Fail> {
+        let rows = [mark_row::<TickMark>()];
+        let rules = [mark_rule()];
+        let book = Flat {
+            atoms: &rows,
+            rules: &rules,
+        };
+        let mut sheet = [b'#'; 200];
+        let refused = match write(&book, &mut sheet) {
+            Ok(_) => return Err(Fail::new("a head that is not there")),
+            Err(fault) => fault.refusal(),
+        };
+        check(refused.number == 4 && refused.values == Values::RuleLiteral(0, 0))?;
+        check(begins_with(&sheet, b"", 0))
     }
 }

@@ -38,6 +38,7 @@ use Rattle.writing.specs.Writes.{bookGap, writeAnswer}
 abbrev pub noOpening : List ℕ
 noOpening = 40 ∷ 110 ∷ 111 ∷ 32 ∷ []
 
+-- one number, or rule and literal
 abbrev pub valuesText : Values → List ℕ
 valuesText (One a) = decimal a
 valuesText (RuleLiteral r l) = decimal r ++ space ++ decimal l
@@ -57,14 +58,17 @@ abbrev pub canonicalAt : {S : Type 0} → (List ℕ → ℕ → Result (S × ℕ
 canonicalAt stampAt spelling spelt before notAfter text atoms rules room =
     andThen (bookAt stampAt spelling text (roomOf atoms rules)) (λ m. checkedText spelling spelt before notAfter m room)
 
+-- the length of what is found
 abbrev pub lengthOf : Result (List ℕ) Fault → Result ℕ Fault
 lengthOf (Ok text) = Ok (length text)
 lengthOf (Err e) = Err e
 
+-- the sheet with what is found at its front
 abbrev pub sheetWith : Result (List ℕ) Fault → List ℕ → List ℕ
 sheetWith (Ok text) sheet = text ++ drop (length text) sheet
 sheetWith (Err e) sheet = sheet
 
+-- what is found has room on the sheet
 abbrev pub FitsOn : Result (List ℕ) Fault → ℕ → Type 0
 FitsOn (Ok text) room = length text ≤ room
 FitsOn (Err e) room = Unit {0}
@@ -75,22 +79,27 @@ pub record Replied (found : Result (List ℕ) Fault) (answer : Result ℕ Fault)
   pub sheet : new ≡ sheetWith found old
   pub fits : FitsOn found (length old)
 
--- the two tests of each order that has a word
+-- a tick is before a later one
 abbrev pub tickBefore : Tick → Tick → Bool
 tickBefore a b = ltb (a .0) (b .0)
 
+-- a tick is not after itself and later ones
 abbrev pub tickNotAfter : Tick → Tick → Bool
 tickNotAfter a b = leb (a .0) (b .0)
 
+-- a route is before those that have its aisles and more
 abbrev pub routeBefore : Route → Route → Bool
 routeBefore a b = partOf (a .aisles) (b .aisles) && not (partOf (b .aisles) (a .aisles))
 
+-- a route is not after those that have its aisles
 abbrev pub routeNotAfter : Route → Route → Bool
 routeNotAfter a b = partOf (a .aisles) (b .aisles)
 
+-- first ticks decide, then the second ones
 abbrev pub thenBefore : Then Tick Tick → Then Tick Tick → Bool
 thenBefore a b = tickBefore (a .first) (b .first) || (level tickNotAfter (a .first) (b .first) && tickBefore (a .second) (b .second))
 
+-- the same, with the last step not after
 abbrev pub thenNotAfter : Then Tick Tick → Then Tick Tick → Bool
 thenNotAfter a b = tickBefore (a .first) (b .first) || (level tickNotAfter (a .first) (b .first) && tickNotAfter (a .second) (b .second))
 
