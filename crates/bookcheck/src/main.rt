@@ -33,12 +33,31 @@ fn run(rt: &LibcRuntime) -> Result<(), AnyError> {
     let heap = rt.alloc();
     let text = input(rt)?;
     let tick = Tick(0);
-    let mut ticks = vec![in heap; AtomRow { stamp: tick, reading: false }; TABLE]?;
-    let mut routes = vec![in heap; AtomRow { stamp: Route { aisles: 0 }, reading: false }; TABLE]?;
-    let mut pairs = vec![in heap; AtomRow { stamp: Then { first: tick, second: tick }, reading: false }; TABLE]?;
+    let mut ticks = vec![in heap; AtomRow {
+        stamp: tick,
+        reading: false
+    }; TABLE]?;
+    let mut routes = vec![in heap; AtomRow {
+        stamp: Route { aisles: 0 },
+        reading: false
+    }; TABLE]?;
+    let mut pairs = vec![in heap; AtomRow {
+        stamp: Then {
+            first: tick,
+            second: tick
+        },
+        reading: false
+    }; TABLE]?;
     let mut rules = vec![in heap; None; TABLE]?;
     let mut sheet = vec![in heap; 0u8; MAX_INPUT]?;
-    let length = reply(&text, &mut ticks, &mut routes, &mut pairs, &mut rules, &mut sheet);
+    let length = reply(
+        &text,
+        &mut ticks,
+        &mut routes,
+        &mut pairs,
+        &mut rules,
+        &mut sheet,
+    );
     if let Some(written) = sheet.get(0..length) {
         rt.stdout().write_all(written)?;
     }

@@ -68,7 +68,10 @@ impl Fault {
                     ReadFault::Byte { place } => (1, Values::One(place)),
                     ReadFault::Number { place } => (2, Values::One(place)),
                     ReadFault::TooMany { place } => (3, Values::One(place)),
-                    ReadFault::AtomMissing { rule, literal } => (4, Values::RuleLiteral(rule, literal)),
+                    ReadFault::AtomMissing { rule, literal } => (
+                        4,
+                        Values::RuleLiteral(rule, literal),
+                    ),
                 };
                 Refusal {
                     layer: Layer::Reading,
@@ -82,10 +85,22 @@ impl Fault {
                     CheckFault::BodyTooLong { rule } => (3, Values::RuleLiteral(rule, 0)),
                     CheckFault::HeadMissing { rule } => (4, Values::RuleLiteral(rule, 0)),
                     CheckFault::HeadIsReading { rule } => (5, Values::RuleLiteral(rule, 0)),
-                    CheckFault::LiteralMissing { rule, literal } => (4, Values::RuleLiteral(rule, literal)),
-                    CheckFault::PositiveOutOfOrder { rule, literal } => (6, Values::RuleLiteral(rule, literal)),
-                    CheckFault::NegativeOutOfOrder { rule, literal } => (7, Values::RuleLiteral(rule, literal)),
-                    CheckFault::SlotMissing { pattern, literal } => (4, Values::RuleLiteral(pattern, literal)),
+                    CheckFault::LiteralMissing { rule, literal } => (
+                        4,
+                        Values::RuleLiteral(rule, literal),
+                    ),
+                    CheckFault::PositiveOutOfOrder { rule, literal } => (
+                        6,
+                        Values::RuleLiteral(rule, literal),
+                    ),
+                    CheckFault::NegativeOutOfOrder { rule, literal } => (
+                        7,
+                        Values::RuleLiteral(rule, literal),
+                    ),
+                    CheckFault::SlotMissing { pattern, literal } => (
+                        4,
+                        Values::RuleLiteral(pattern, literal),
+                    ),
                     CheckFault::RuleMissing { rule } => (4, Values::RuleLiteral(rule, 0)),
                     CheckFault::SheetTooShort { needed } => (17, Values::One(needed)),
                 };
@@ -116,7 +131,10 @@ pub impl fmt::Display for Refusal as RefusalDisplay {
         match self.values {
             Values::One(value) => write!(f, "refusal {number} ({layer}): {value}"),
             Values::RuleLiteral(rule, literal) => {
-                write!(f, "refusal {number} ({layer}) at rule {rule}, literal {literal}")
+                write!(
+                    f,
+                    "refusal {number} ({layer}) at rule {rule}, literal {literal}"
+                )
             }
         }
     }

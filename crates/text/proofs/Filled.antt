@@ -31,14 +31,15 @@ rows-more meant n ms was rows x h l =
     record {
       within = rw length-set (omega arith);
       written =
-        ap (map meant) (take-more-set rows n x l)
-        ∙ map-push meant (take n rows) x
-        ∙ ap (λ ys. ys ++ (meant x ∷ [])) (h .written);
+          ap (map meant) (take-more-set rows n x l)
+          ∙ map-push meant (take n rows) x
+          ∙ ap (λ ys. ys ++ (meant x ∷ [])) (h .written);
       rest =
-        drop-set-lt (n + 1) rows n x (omega arith)
-        ∙ sym (drop-drop 1 n rows)
-        ∙ ap (drop 1) (h .rest)
-        ∙ drop-drop 1 n was }
+          drop-set-lt (n + 1) rows n x (omega arith)
+          ∙ sym (drop-drop 1 n rows)
+          ∙ ap (drop 1) (h .rest)
+          ∙ drop-drop 1 n was;
+    }
 
 rows-none : {R M : Type 0} (meant : R → M) (was : List R) → Rows meant 0 [] was was
 rows-none meant was = record { within = omega arith; written = refl; rest = refl }
@@ -89,16 +90,20 @@ module _ {S : Type 0} (stampAt : List ℕ → ℕ → Result (S × ℕ) Fault) (
         ∙ sym (ap (λ b. cond b (Ok state) (andThen (formAt stampAt spelling text room r) (λ p. Ok (after state p)))) t)
 
     pub reached-stays : finished text r ≡ true → Reached (n + 1) r a₀ a b₀ b
-    reached-stays t =
-        (h .0, h .1,
-          sym (ap (λ b. cond b (Ok state) (andThen (formAt stampAt spelling text room r) (λ p. Ok (after state p)))) t) ∙ tries-more step startProgress n state (h .2),
-          h .3)
+    reached-stays t = (
+      h .0,
+      h .1,
+      sym (ap (λ b. cond b (Ok state) (andThen (formAt stampAt spelling text room r) (λ p. Ok (after state p)))) t) ∙ tries-more step startProgress n state (h .2),
+      h .3,
+    )
 
     pub reached-more : finished text r ≡ false → (f : Form S) (next : ℕ) → Ok (lineOf f, next) ≡ formAt stampAt spelling text room r → Roomy (record { atoms = length a; rules = length b }) r f → Reached (n + 1) (movedBy r (lineOf f) next) a₀ (putAtom (r .atoms) a f) b₀ (putRule (r .rules) b f)
-    reached-more t f next e l =
-        (after state (lineOf f, next) .atoms, after state (lineOf f, next) .rules,
-          goes t (Ok (lineOf f, next)) e ∙ tries-more step startProgress n state (h .2),
-          held-after state a₀ a b₀ b (h .3) next f l)
+    reached-more t f next e l = (
+      after state (lineOf f, next) .atoms,
+      after state (lineOf f, next) .rules,
+      goes t (Ok (lineOf f, next)) e ∙ tries-more step startProgress n state (h .2),
+      held-after state a₀ a b₀ b (h .3) next f l,
+    )
 
     pub reached-refused : finished text r ≡ false → (e : Fault) → Err e ≡ formAt stampAt spelling text room r → n < length text → Err e ≡ progressAt stampAt spelling text room
     unfolding progressAt

@@ -29,7 +29,8 @@ pub wrote-then : {was : List ℕ} {at : ℕ} {xs mid : List ℕ} {between : ℕ}
 wrote-then {was} {at} {xs} {mid} {between} {ys} {sheet} {next} h k =
     record {
       held = k .held ∙ ap (λ s. laid s between ys) (h .held) ∙ ap (λ n. laid (laid was at xs) n ys) (h .place) ∙ sym (laid-append was xs ys at);
-      place = let n = length-append xs ys in let p = h .place in let q = k .place in omega arith }
+      place = let n = length-append xs ys in let p = h .place in let q = k .place in omega arith;
+    }
 
 pub wrote-none : (was : List ℕ) (at : ℕ) → Wrote was at [] was at
 unfolding laid

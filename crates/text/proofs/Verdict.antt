@@ -49,8 +49,9 @@ module _ {S : Type 0} (stampAt : List ℕ → ℕ → Result (S × ℕ) Fault) (
       let m : Meaning S = record { atoms = s .atoms; rules = s .rules } in
       let found : bookAt stampAt spelling text room ≡ Ok m = book-is stampAt spelling text room ∙ ap (bookOf n) (sym k) ∙ p .1 in
       let ok : Accepted m (Ok (record { atoms = r .atoms; rules = r .rules })) a₀ a b₀ b =
-        record {
-          counts = cc;
-          atoms = all-rows atomOf (s .reader .atoms) (s .atoms) a₀ a (held .atoms);
-          rules = all-rows (mapped ruleOf) (s .reader .rules) (s .rules) b₀ b (held .rules) } in
+      record {
+        counts = cc;
+        atoms = all-rows atomOf (s .reader .atoms) (s .atoms) a₀ a (held .atoms);
+        rules = all-rows (mapped ruleOf) (s .reader .rules) (s .rules) b₀ b (held .rules);
+      } in
       subst (λ x. ReadInto x (Ok (record { atoms = r .atoms; rules = r .rules })) a₀ a b₀ b) (sym found) ok

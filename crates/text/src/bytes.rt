@@ -13,7 +13,11 @@ pub fn byte_at(text: &[u8], at: usize) -> Option<u8>
     ensures value { λ r. ⌜ r ≡ nth (now (text .entry)) at ⌝ }
     ensures inside { λ r. ⌜ Cases r (Unit {0}) (λ _. at < length (now (text .entry))) ⌝ }
 {
-    if at < text.len() { Some(text[at]) } else { None }
+    if at < text.len() {
+        Some(text[at])
+    } else {
+        None
+    }
 }
 
 // The refusal of the byte at a place, or of the text's end.

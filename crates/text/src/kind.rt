@@ -30,5 +30,9 @@ fn told(line: &[u8]) -> Option<Kind>
 pub fn kind_at(text: &[u8], at: usize) -> Option<Kind>
     ensures { λ r. ⌜ r ≡ kindOf (drop at (now (text .entry))) ⌝ }
 {
-    if at < text.len() { told(&text[at..]) } else { None }
+    if at < text.len() {
+        told(&text[at..])
+    } else {
+        None
+    }
 }

@@ -32,7 +32,11 @@ fn moved<S: Spelled>(reader: Reader, room: Room, form: Form<S>, next: usize) -> 
     ensures { λ r. ⌜ r ≡ movedBy reader (lineOf form) next ⌝ }
 {
     match form {
-        Form::Order => Reader { stage: Stage::Atoms, next, ..reader },
+        Form::Order => Reader {
+            stage: Stage::Atoms,
+            next,
+            ..reader
+        },
         Form::Atom(_) => Reader {
             stage: Stage::Atoms,
             next,
@@ -45,7 +49,11 @@ fn moved<S: Spelled>(reader: Reader, room: Room, form: Form<S>, next: usize) -> 
             rules: reader.rules + 1,
             ..reader
         },
-        Form::End => Reader { stage: Stage::End, next, ..reader },
+        Form::End => Reader {
+            stage: Stage::End,
+            next,
+            ..reader
+        },
     }
 }
 
@@ -85,11 +93,20 @@ fn survey<S: Spelled>(text: &[u8], room: Room) -> Result<Reader, Fault>
     for _turn in 0..text.len() {
         reader = one_move::<S>(text, room, reader)?;
     }
-    if is_end(reader.stage) { Ok(reader) } else { wrong(text.len()) }
+    if is_end(reader.stage) {
+        Ok(reader)
+    } else {
+        wrong(text.len())
+    }
 }
 
 // Writes what a form says into its table.
-fn put<S: Spelled>(form: Form<S>, reader: Reader, atoms: &mut [AtomRow<S>], rules: &mut [Option<RuleRow>])
+fn put<S: Spelled>(
+    form: Form<S>,
+    reader: Reader,
+    atoms: &mut [AtomRow<S>],
+    rules: &mut [Option<RuleRow>],
+)
     requires { ⌜ Roomy (record { atoms = length (now atoms); rules = length (now rules) }) reader form ⌝ }
     ensures atoms { λ _. ⌜ now (atoms .exit) ≡ putAtom (reader .atoms) (now (atoms .entry)) form ⌝ }
     ensures rules { λ _. ⌜ now (rules .exit) ≡ putRule (reader .rules) (now (rules .entry)) form ⌝ }
@@ -102,7 +119,12 @@ fn put<S: Spelled>(form: Form<S>, reader: Reader, atoms: &mut [AtomRow<S>], rule
 }
 
 // Goes over the text once more and writes its atoms and rules into the tables.
-fn fill<S: Spelled>(text: &[u8], room: Room, atoms: &mut [AtomRow<S>], rules: &mut [Option<RuleRow>]) -> Result<(), Fault>
+fn fill<S: Spelled>(
+    text: &[u8],
+    room: Room,
+    atoms: &mut [AtomRow<S>],
+    rules: &mut [Option<RuleRow>],
+) -> Result<(), Fault>
     requires { ⌜ room .atoms ≤ length (now atoms) ⌝ ∗ ⌜ room .rules ≤ length (now rules) ⌝ }
     ensures { λ r. ⌜ FilledBy (progressAt (S·Spelled .stampAt) (S·Spelled .spelling) (now (text .entry)) room) r (now (atoms .entry)) (now (atoms .exit)) (now (rules .entry)) (now (rules .exit)) ⌝ }
 {
@@ -129,7 +151,11 @@ fn room_of(atoms: usize, rules: usize) -> Room
 
 // Reads a text into the tables, and answers how many atoms and rules it has.
 // A refused text leaves both tables as they were; rows beyond what is written stay.
-pub fn read<S: Spelled>(text: &[u8], atoms: &mut [AtomRow<S>], rules: &mut [Option<RuleRow>]) -> Result<Counts, Fault>
+pub fn read<S: Spelled>(
+    text: &[u8],
+    atoms: &mut [AtomRow<S>],
+    rules: &mut [Option<RuleRow>],
+) -> Result<Counts, Fault>
     ensures { λ r. ⌜ ReadInto (bookAt (S·Spelled .stampAt) (S·Spelled .spelling) (now (text .entry)) (roomOf (length (now (atoms .entry))) (length (now (rules .entry))))) r (now (atoms .entry)) (now (atoms .exit)) (now (rules .entry)) (now (rules .exit)) ⌝ }
 {
     let room = room_of(atoms.len(), rules.len());

@@ -21,7 +21,13 @@ use makes::rows::RuleRow;
 const MAX_TURNS: usize = 7;
 
 // The atom at a place of a list that has `count` already, whether another follows, and where.
-fn one_literal(text: &[u8], site: Site, before: usize, count: usize, at: usize) -> Result<(usize, bool, usize), Fault>
+fn one_literal(
+    text: &[u8],
+    site: Site,
+    before: usize,
+    count: usize,
+    at: usize,
+) -> Result<(usize, bool, usize), Fault>
     requires { ⌜ before ≤ 6 ⌝ ∗ ⌜ count ≤ 6 ⌝ }
     ensures value { λ r. ⌜ r ≡ literalAt (now (text .entry)) site before count at ⌝ }
     ensures few { λ r. ⌜ made r (λ _. count < 6) ⌝ }

@@ -120,7 +120,12 @@ pub impl Spelled for Route as RouteSpelled {
     fn stamp(text: &[u8], at: usize) -> Result<(Route, usize), Fault> {
         let (more, next) = open_list(text, at)?;
         let list = rising(text, more, next)?;
-        Ok((Route { aisles: list.aisles }, list.next))
+        Ok((
+            Route {
+                aisles: list.aisles,
+            },
+            list.next,
+        ))
     }
 
     fn spell(&self, sheet: &mut [u8], at: usize) -> usize {

@@ -75,7 +75,11 @@ fn marked_rule(row: Option<RuleRow>) -> bool {
 }
 
 // Reads into marked tables; a refusal that leaves a mark changed gives none.
-fn refusal<S: Mark>(text: &[u8], atoms: &mut [AtomRow<S>], rules: &mut [Option<RuleRow>]) -> Option<Refusal> {
+fn refusal<S: Mark>(
+    text: &[u8],
+    atoms: &mut [AtomRow<S>],
+    rules: &mut [Option<RuleRow>],
+) -> Option<Refusal> {
     let fault = match read::<S>(text, atoms, rules) {
         Ok(_) => return None,
         Err(fault) => fault,
@@ -110,21 +114,35 @@ fn mark_rule() -> Option<RuleRow> {
 }
 
 fn tick_refusal(text: &[u8]) -> Option<Refusal> {
-    refusal(text, &mut [mark_row::<TickMark>(); 4], &mut [mark_rule(); 3])
+    refusal(
+        text,
+        &mut [mark_row::<TickMark>(); 4],
+        &mut [mark_rule(); 3],
+    )
 }
 
 fn route_refusal(text: &[u8]) -> Option<Refusal> {
-    refusal(text, &mut [mark_row::<RouteMark>(); 4], &mut [mark_rule(); 3])
+    refusal(
+        text,
+        &mut [mark_row::<RouteMark>(); 4],
+        &mut [mark_rule(); 3],
+    )
 }
 
 fn then_refusal(text: &[u8]) -> Option<Refusal> {
-    refusal(text, &mut [mark_row::<ThenMark>(); 4], &mut [mark_rule(); 3])
+    refusal(
+        text,
+        &mut [mark_row::<ThenMark>(); 4],
+        &mut [mark_rule(); 3],
+    )
 }
 
 // The row is a rule with this head and so many positives and negatives.
 fn is_rule(row: &Option<RuleRow>, head: usize, positives: usize, negatives: usize) -> bool {
     match row {
-        Some(rule) => rule.head == head && rule.positives.count() == positives && rule.negatives.count() == negatives,
+        Some(rule) => rule.head == head
+            && rule.positives.count() == positives
+            && rule.negatives.count() == negatives,
         None => false,
     }
 }
@@ -164,7 +182,14 @@ fn replies(text: &[u8], expected: &[u8]) -> bool {
     let mut pairs = [mark_row::<ThenMark>(); 8];
     let mut rules = [mark_rule(); 8];
     let mut sheet = [b'#'; 512];
-    let length = reply(text, &mut ticks, &mut routes, &mut pairs, &mut rules, &mut sheet);
+    let length = reply(
+        text,
+        &mut ticks,
+        &mut routes,
+        &mut pairs,
+        &mut rules,
+        &mut sheet,
+    );
     if length > sheet.len() {
         return false;
     }
@@ -177,7 +202,11 @@ fn begins_with(sheet: &[u8], expected: &[u8], length: usize) -> bool {
         return false;
     }
     for (i, byte) in sheet.iter().enumerate() {
-        let wanted = if i < expected.len() { expected[i] } else { b'#' };
+        let wanted = if i < expected.len() {
+            expected[i]
+        } else {
+            b'#'
+        };
         if *byte != wanted {
             return false;
         }
@@ -220,8 +249,16 @@ mod tests {
 
     #[test]
     fn wrong_forms_among_rules() -> Result<(), Fail> {
-        check(refused_at(tick_refusal(b"(order tick)\n(void 0)\n(atom 0 in 1)\n"), 1, 23))?;
-        check(refused_at(tick_refusal(b"(order tick)\n(void 0)\n(order tick)\n"), 1, 23))?;
+        check(refused_at(
+            tick_refusal(b"(order tick)\n(void 0)\n(atom 0 in 1)\n"),
+            1,
+            23,
+        ))?;
+        check(refused_at(
+            tick_refusal(b"(order tick)\n(void 0)\n(order tick)\n"),
+            1,
+            23,
+        ))?;
         check(refused_at(tick_refusal(b"(order tick)\n(void 0)\n(voip 1)\n"), 1, 26))
     }
 
@@ -241,8 +278,16 @@ mod tests {
         check(refused_at(tick_refusal(b"(order tick)\n(atom 0 on 1)\n"), 1, 22))?;
         check(refused_at(tick_refusal(b"(order tick)\n(atom 0 inn 1)\n"), 1, 23))?;
         check(refused_at(tick_refusal(b"(order tick)\n(atom 0 in (1))\n"), 1, 24))?;
-        check(refused_at(tick_refusal(b"(order tick)\n(atom 0 in 12345678901)\n"), 1, 34))?;
-        check(refused_at(tick_refusal(b"(order tick)\n(atom 0 in 4294967296)\n"), 2, 24))?;
+        check(refused_at(
+            tick_refusal(b"(order tick)\n(atom 0 in 12345678901)\n"),
+            1,
+            34,
+        ))?;
+        check(refused_at(
+            tick_refusal(b"(order tick)\n(atom 0 in 4294967296)\n"),
+            2,
+            24,
+        ))?;
         check(refused_at(tick_refusal(b"(order tick)\n(atom 0 in 1)\r\n"), 1, 26))?;
         check(refused_at(tick_refusal(b"(order tick)\n(atom 0 in 1"), 1, 25))
     }
@@ -263,12 +308,17 @@ mod tests {
         check(refused_at(then_refusal(b"(order then)\n(atom 0 in 3)\n"), 1, 24))?;
         check(refused_at(then_refusal(b"(order then)\n(atom 0 in (3))\n"), 1, 26))?;
         check(refused_at(then_refusal(b"(order then)\n(atom 0 in (3 1 2))\n"), 1, 28))?;
-        check(refused_at(then_refusal(b"(order then)\n(atom 0 in (3 4294967296))\n"), 2, 27))
+        check(refused_at(
+            then_refusal(b"(order then)\n(atom 0 in (3 4294967296))\n"),
+            2,
+            27,
+        ))
     }
 
     #[test]
     fn tables_that_are_full() -> Result<(), Fail> {
-        let four = b"(order tick)\n(atom 0 in 1)\n(atom 1 in 1)\n(atom 2 in 1)\n(atom 3 in 1)\n(atom 9 in 1)\n(end)\n";
+        let four =
+            b"(order tick)\n(atom 0 in 1)\n(atom 1 in 1)\n(atom 2 in 1)\n(atom 3 in 1)\n(atom 9 in 1)\n(end)\n";
         check(refused_at(tick_refusal(four), 3, 69))?;
         let three = b"(order tick)\n(void 0)\n(void 1)\n(void 2)\n(void 9)\n(end)\n";
         check(refused_at(tick_refusal(three), 3, 40))?;
@@ -279,18 +329,47 @@ mod tests {
     #[test]
     fn rules_that_are_refused() -> Result<(), Fail> {
         check(undeclared(b"(order tick)\n(atom 0 out 1)\n(rule 0 1 () ())\n", 0, 0))?;
-        check(undeclared(b"(order tick)\n(atom 0 out 1)\n(void 0)\n(rule 1 0 (0 1) ())\n", 1, 2))?;
-        check(undeclared(b"(order tick)\n(atom 0 out 1)\n(rule 0 0 (0 0) (0 5))\n", 0, 4))?;
-        check(refused_at(tick_refusal(b"(order tick)\n(atom 0 out 1)\n(rule 0 0 (0 0 0 0 0 0 0) ())\n"), 3, 28))?;
-        check(refused_at(tick_refusal(b"(order tick)\n(atom 0 out 1)\n(rule 0 0 () (0 0 0 0 0 0 9"), 3, 28))?;
-        check(refused_at(tick_refusal(b"(order tick)\n(atom 0 out 1)\n(rule 1 0 () ())\n"), 2, 34))?;
-        check(refused_at(tick_refusal(b"(order tick)\n(atom 0 out 1)\n(rule 0 0 ()())\n"), 1, 40))?;
-        check(refused_at(tick_refusal(b"(order tick)\n(atom 0 out 1)\n(rule 0 4294967296 () ())\n"), 2, 36))
+        check(undeclared(
+            b"(order tick)\n(atom 0 out 1)\n(void 0)\n(rule 1 0 (0 1) ())\n",
+            1,
+            2,
+        ))?;
+        check(undeclared(
+            b"(order tick)\n(atom 0 out 1)\n(rule 0 0 (0 0) (0 5))\n",
+            0,
+            4,
+        ))?;
+        check(refused_at(
+            tick_refusal(b"(order tick)\n(atom 0 out 1)\n(rule 0 0 (0 0 0 0 0 0 0) ())\n"),
+            3,
+            28,
+        ))?;
+        check(refused_at(
+            tick_refusal(b"(order tick)\n(atom 0 out 1)\n(rule 0 0 () (0 0 0 0 0 0 9"),
+            3,
+            28,
+        ))?;
+        check(refused_at(
+            tick_refusal(b"(order tick)\n(atom 0 out 1)\n(rule 1 0 () ())\n"),
+            2,
+            34,
+        ))?;
+        check(refused_at(
+            tick_refusal(b"(order tick)\n(atom 0 out 1)\n(rule 0 0 ()())\n"),
+            1,
+            40,
+        ))?;
+        check(refused_at(
+            tick_refusal(b"(order tick)\n(atom 0 out 1)\n(rule 0 4294967296 () ())\n"),
+            2,
+            36,
+        ))
     }
 
     #[test]
     fn a_text_cut_after_each_byte() -> Result<(), Fail> {
-        let text = b"(order tick)\n(atom 0 in 1)\n(atom 1 out 2)\n(rule 0 1 (0) ())\n(void 1)\n(end)\n";
+        let text =
+            b"(order tick)\n(atom 0 in 1)\n(atom 1 out 2)\n(rule 0 1 (0) ())\n(void 1)\n(end)\n";
         for n in 0..text.len() {
             check(refused_at(tick_refusal(&text[0..n]), 1, n))?;
         }
@@ -305,7 +384,8 @@ mod tests {
         };
         let mut atoms = [row; 4];
         let mut rules = [None; 4];
-        let text = b"(order tick)\n(atom 0 in 0000000001)\n(atom 1 out 4294967295)\n(rule 0000000000 1 (0) (0 0))\n(void 1)\n(end)\n";
+        let text =
+            b"(order tick)\n(atom 0 in 0000000001)\n(atom 1 out 4294967295)\n(rule 0000000000 1 (0) (0 0))\n(void 1)\n(end)\n";
         let counts = read::<Tick>(text, &mut atoms, &mut rules)?;
         check(counts.atoms == 2 && counts.rules == 2)?;
         let [first, second, third, fourth] = atoms;
@@ -333,11 +413,14 @@ mod tests {
 
     #[test]
     fn canonical_texts_come_back() -> Result<(), Fail> {
-        let ticks = b"(order tick)\n(atom 0 in 1)\n(atom 1 out 4294967295)\n(rule 0 1 (0) (0 0))\n(void 1)\n(end)\n";
+        let ticks =
+            b"(order tick)\n(atom 0 in 1)\n(atom 1 out 4294967295)\n(rule 0 1 (0) (0 0))\n(void 1)\n(end)\n";
         check(replies(ticks, ticks))?;
-        let routes = b"(order route)\n(atom 0 in ())\n(atom 1 out (0 2 10 63))\n(rule 0 1 () (0))\n(end)\n";
+        let routes =
+            b"(order route)\n(atom 0 in ())\n(atom 1 out (0 2 10 63))\n(rule 0 1 () (0))\n(end)\n";
         check(replies(routes, routes))?;
-        let pairs = b"(order then)\n(atom 0 out (0 0))\n(atom 1 out (3 20))\n(rule 0 1 (0 1) (0))\n(end)\n";
+        let pairs =
+            b"(order then)\n(atom 0 out (0 0))\n(atom 1 out (3 20))\n(rule 0 1 (0 1) (0))\n(end)\n";
         check(replies(pairs, pairs))?;
         let empty = b"(order tick)\n(end)\n";
         check(replies(empty, empty))
@@ -361,7 +444,10 @@ mod tests {
         check(replies(b"(order tx", b"(no 1 8)\n"))?;
         check(replies(b"(order thex", b"(no 1 10)\n"))?;
         check(replies(b"(order tick)\n(atom 7 in 1)\n", b"(no 2 19)\n"))?;
-        check(replies(b"(order tick)\n(atom 0 out 1)\n(rule 0 0 (4) ())\n", b"(no 4 0 1)\n"))?;
+        check(replies(
+            b"(order tick)\n(atom 0 out 1)\n(rule 0 0 (4) ())\n",
+            b"(no 4 0 1)\n",
+        ))?;
         check(replies(
             b"(order tick)\n(atom 0 in 1)\n(rule 0 0 () ())\n(end)\n",
             b"(no 5 0 0)\n",
@@ -425,19 +511,23 @@ mod tests {
         }
         match read::<Tick>(&sheet[0..length], &mut atoms, &mut rules) {
             Ok(_) => Err(Fail::new("a form too many")),
-            Err(fault) => check(fault.refusal().number == 3 && fault.refusal().values == Values::One(end)),
+            Err(fault) => check(
+                fault.refusal().number == 3 && fault.refusal().values == Values::One(end),
+            ),
         }
     }
 
     #[test]
     fn a_closed_aisle_comes_back() -> Result<(), Fail> {
-        let book = b"(order tick)\n(atom 0 in 1)\n(atom 1 in 1)\n(atom 2 out 2)\n(atom 3 out 3)\n(atom 4 out 4)\n(rule 0 2 (0) ())\n(rule 1 3 (1) (2))\n(rule 2 4 () (3))\n(end)\n";
+        let book =
+            b"(order tick)\n(atom 0 in 1)\n(atom 1 in 1)\n(atom 2 out 2)\n(atom 3 out 3)\n(atom 4 out 4)\n(rule 0 2 (0) ())\n(rule 1 3 (1) (2))\n(rule 2 4 () (3))\n(end)\n";
         check(replies(book, book))
     }
 
     #[test]
     fn a_reroute_comes_back() -> Result<(), Fail> {
-        let book = b"(order route)\n(atom 0 in ())\n(atom 1 in (3))\n(atom 2 out (3 4))\n(atom 3 out (3 4))\n(atom 4 out (3 4 5))\n(rule 0 2 (0 3) ())\n(rule 1 3 (0 2) ())\n(rule 2 2 (0) (1))\n(rule 3 4 (2 3) (1))\n(end)\n";
+        let book =
+            b"(order route)\n(atom 0 in ())\n(atom 1 in (3))\n(atom 2 out (3 4))\n(atom 3 out (3 4))\n(atom 4 out (3 4 5))\n(rule 0 2 (0 3) ())\n(rule 1 3 (0 2) ())\n(rule 2 2 (0) (1))\n(rule 3 4 (2 3) (1))\n(end)\n";
         check(replies(book, book))
     }
 

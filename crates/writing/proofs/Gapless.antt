@@ -47,8 +47,9 @@ module _ {S : Type 0} (m : Meaning S) (e : bookGap m ≡ None) where
   pub few-everywhere : Few m
   few-everywhere k =
       elim (cases-lt k (length (m .rules))) [
-        inl below ↦ few-in (ruleAt m k) _ _ (first-none (ruleGap m) (length (m .rules)) (parts .1) k below)
-      | inr past ↦
-        let none : ruleAt m k ≡ None = ap flattened (nth-past (m .rules) k past) in
-        let few : FewIn None = (omega arith, omega arith) in
-        subst FewIn (sym none) few ]
+        | inl below ↦ few-in (ruleAt m k) _ _ (first-none (ruleGap m) (length (m .rules)) (parts .1) k below)
+        | inr past ↦
+            let none : ruleAt m k ≡ None = ap flattened (nth-past (m .rules) k past) in
+            let few : FewIn None = (omega arith, omega arith) in
+            subst FewIn (sym none) few
+      ]

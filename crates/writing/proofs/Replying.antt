@@ -84,4 +84,5 @@ wrote-refused (Err d) e r n old mid new h k w =
     let line = ap refusalText (k ∙ ap refusalOf same) in
     record {
       held = w .held ∙ ap (λ s. laid s 0 (refusalText r)) (h .sheet) ∙ ap (laid old 0) line;
-      place = w .place ∙ ap (λ b. 0 + length b) line }
+      place = w .place ∙ ap (λ b. 0 + length b) line;
+    }

@@ -35,7 +35,9 @@ module _ {S : Type 0} (a₀ a : List (AtomRow S)) (b₀ b : List (Option RuleRow
       let ea = ap (λ k. map atomOf (take k a)) na ∙ h .atoms .written in
       let eb = ap (λ k. map (mapped ruleOf) (take k b)) nb ∙ h .rules .written in
       let wa = h .atoms .within in
-      let wb = h .rules .within in
-      (omega arith, omega arith,
+      let wb = h .rules .within in (
+        omega arith,
+        omega arith,
         ap (λ (xs : List (Atom S)). Ok (record { atoms = xs; rules = m .rules })) (sym ea)
-        ∙ ap (λ (ys : List (Option Rule)). Ok (record { atoms = map atomOf (take (n .atoms) a); rules = ys })) (sym eb))
+            ∙ ap (λ (ys : List (Option Rule)). Ok (record { atoms = map atomOf (take (n .atoms) a); rules = ys })) (sym eb),
+      )

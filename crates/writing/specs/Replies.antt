@@ -115,10 +115,10 @@ unfoldable pub programAt : List ℕ → ℕ → ℕ → ℕ → ℕ → ℕ → 
 programAt text ticks routes pairs rules room =
     cond (ltb 65536 (length text)) (Err (Reading (TooMany 0)))
     (byWord (wordOf text)
-        (canonicalAt tickAt tickWord tickText tickBefore tickNotAfter text ticks rules room)
-        (canonicalAt routeAt routeWord routeText routeBefore routeNotAfter text routes rules room)
-        (canonicalAt pairAt thenWord pairText thenBefore thenNotAfter text pairs rules room)
-        (wrongAt (orderRefused text)))
+    (canonicalAt tickAt tickWord tickText tickBefore tickNotAfter text ticks rules room)
+    (canonicalAt routeAt routeWord routeText routeBefore routeNotAfter text routes rules room)
+    (canonicalAt pairAt thenWord pairText thenBefore thenNotAfter text pairs rules room)
+    (wrongAt (orderRefused text)))
 
 -- what the program writes: the canonical text, or one line with the refusal
 abbrev pub replyText : Result (List ℕ) Fault → List ℕ

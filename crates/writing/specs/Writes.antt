@@ -30,10 +30,10 @@ abbrev pub ruleGap : {S : Type 0} → Meaning S → ℕ → Option CheckFault
 ruleGap m k =
     bindSome
     (λ r. cond (ltb 6 (length (r .positives)) || ltb 6 (length (r .negatives)))
-        (Some (BodyTooLong k))
-        (cond (isSome (stampOf m (r .head)))
-            (firstBelow (length (r .positives) + length (r .negatives)) (literalGap m k))
-            (Some (HeadMissing k))))
+    (Some (BodyTooLong k))
+    (cond (isSome (stampOf m (r .head)))
+    (firstBelow (length (r .positives) + length (r .negatives)) (literalGap m k))
+    (Some (HeadMissing k))))
     (ruleAt m k)
 
 -- the first fault that keeps a book from being written, in the order of the check

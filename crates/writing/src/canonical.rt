@@ -3,8 +3,6 @@ ghost use lib.ListN.{length, take};
 ghost use mathlib.Core.Path.{_≡_};
 ghost use Prim.Native.Nat.{_≤_};
 ghost use Rattle.writing.specs.Replies.{checkedText, canonicalAt, Replied};
-use text::read::read;
-use text::stamp::Spelled;
 use crate::write::write;
 use books::book::Book;
 use books::check::check;
@@ -13,6 +11,8 @@ use makes::flat::Flat;
 use makes::flat::FlatBook;
 use makes::rows::AtomRow;
 use makes::rows::RuleRow;
+use text::read::read;
+use text::stamp::Spelled;
 
 // Writes a book that passes the check.
 pub fn write_checked<B: Book>(book: &B, sheet: &mut [u8]) -> Result<usize, Fault>
@@ -33,7 +33,12 @@ fn front<T: Copy>(rows: &[T], count: usize) -> &[T]
 }
 
 // Reads a text into the tables, checks its book, and writes it in canonical spelling. A refused sheet is untouched.
-pub fn canonical<S: Spelled>(text: &[u8], atoms: &mut [AtomRow<S>], rules: &mut [Option<RuleRow>], sheet: &mut [u8]) -> Result<usize, Fault>
+pub fn canonical<S: Spelled>(
+    text: &[u8],
+    atoms: &mut [AtomRow<S>],
+    rules: &mut [Option<RuleRow>],
+    sheet: &mut [u8],
+) -> Result<usize, Fault>
     ensures { λ r. ⌜ Replied (canonicalAt (S·Spelled .stampAt) (S·Spelled .spelling) (S·Spelled .spelt) (S·Order .isBefore) (S·Order .isNotAfter) (now (text .entry)) (length (now (atoms .entry))) (length (now (rules .entry))) (length (now (sheet .entry)))) r (now (sheet .entry)) (now (sheet .exit)) ⌝ }
 {
     let counts = read::<S>(text, atoms, rules)?;

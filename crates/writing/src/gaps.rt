@@ -35,7 +35,12 @@ fn has<B: Book>(book: &B, atom: usize) -> bool
     }
 }
 
-fn check_literal<B: Book>(book: &B, rule: usize, positives: usize, index: usize) -> Result<(), Fault>
+fn check_literal<B: Book>(
+    book: &B,
+    rule: usize,
+    positives: usize,
+    index: usize,
+) -> Result<(), Fault>
     requires { ⌜ positiveCountOf (B·Book .meaning (now book)) rule ≡ Some positives ⌝ ∗ ⌜ index < 12 ⌝ }
     ensures { λ r. ⌜ r ≡ unless (literalGap (B·Book .meaning (now (book .entry))) rule index) ⌝ }
 {
@@ -53,7 +58,12 @@ fn check_literal<B: Book>(book: &B, rule: usize, positives: usize, index: usize)
 }
 
 // The literals in order, up to the first fault.
-fn check_body<B: Book>(book: &B, rule: usize, positives: usize, negatives: usize) -> Result<(), Fault>
+fn check_body<B: Book>(
+    book: &B,
+    rule: usize,
+    positives: usize,
+    negatives: usize,
+) -> Result<(), Fault>
     requires { ⌜ positiveCountOf (B·Book .meaning (now book)) rule ≡ Some positives ⌝ ∗ ⌜ positives ≤ 6 ⌝ ∗ ⌜ negatives ≤ 6 ⌝ }
     ensures { λ r. ⌜ r ≡ unless (firstBelow (positives + negatives) (literalGap (B·Book .meaning (now (book .entry))) rule)) ⌝ }
 {
@@ -67,9 +77,11 @@ fn check_body<B: Book>(book: &B, rule: usize, positives: usize, negatives: usize
 fn check_rule<B: Book>(book: &B, rule: usize) -> Result<(), Fault>
     ensures { λ r. ⌜ r ≡ unless (ruleGap (B·Book .meaning (now (book .entry))) rule) ⌝ }
 {
-    let (Some(head), Some(positives), Some(negatives)) =
-        (book.head(rule), book.positive_count(rule), book.negative_count(rule))
-    else {
+    let (Some(head), Some(positives), Some(negatives)) = (
+        book.head(rule),
+        book.positive_count(rule),
+        book.negative_count(rule),
+    ) else {
         return Ok(());
     };
     if positives > MAX_BODY || negatives > MAX_BODY {

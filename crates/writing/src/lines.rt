@@ -8,16 +8,20 @@ ghost use Rattle.std.specs.declared.option.Option.the-variants.{None};
 ghost use Rattle.books.specs.Meaning.{ruleAt};
 ghost use Rattle.text.specs.Spelt.{upTo, item, literalIn, itemIn, bodyText, countOr, Few, kindText, atomText, ruleText, atomLineOf, ruleLineOf, bookText};
 ghost use Rattle.text.specs.Written.{Wrote};
+use books::book::Book;
 use text::sheet::put;
 use text::sheet::put_number;
 use text::stamp::Spelled;
-use books::book::Book;
 
 // Number `i` of the rule's positives, or of its negatives.
 fn literal_in<B: Book>(book: &B, rule: usize, positive: bool, i: usize) -> Option<usize>
     ensures { λ r. ⌜ r ≡ literalIn positive (ruleAt (B·Book .meaning (now (book .entry))) rule) i ⌝ }
 {
-    if positive { book.positive(rule, i) } else { book.negative(rule, i) }
+    if positive {
+        book.positive(rule, i)
+    } else {
+        book.negative(rule, i)
+    }
 }
 
 // A number of a list, after a space unless it is the first.
@@ -36,7 +40,14 @@ fn put_item(sheet: &mut [u8], at: usize, i: usize, atom: Option<usize>) -> usize
     put_number(sheet, at, atom)
 }
 
-fn put_items<B: Book>(book: &B, rule: usize, positive: bool, count: usize, sheet: &mut [u8], at: usize) -> usize
+fn put_items<B: Book>(
+    book: &B,
+    rule: usize,
+    positive: bool,
+    count: usize,
+    sheet: &mut [u8],
+    at: usize,
+) -> usize
     requires { ⌜ at < 2 ^ 60 ⌝ ∗ ⌜ count ≤ 6 ⌝ }
     ensures wrote { λ r. ⌜ Wrote (now (sheet .entry)) at (upTo (itemIn positive (ruleAt (B·Book .meaning (now (book .entry))) rule)) count) (now (sheet .exit)) r ⌝ }
     ensures short { λ r. ⌜ r ≤ at + 126 ⌝ }
@@ -49,7 +60,14 @@ fn put_items<B: Book>(book: &B, rule: usize, positive: bool, count: usize, sheet
 }
 
 // The rule's positives or negatives, in brackets.
-fn put_body<B: Book>(book: &B, rule: usize, positive: bool, count: usize, sheet: &mut [u8], at: usize) -> usize
+fn put_body<B: Book>(
+    book: &B,
+    rule: usize,
+    positive: bool,
+    count: usize,
+    sheet: &mut [u8],
+    at: usize,
+) -> usize
     requires { ⌜ at < 2 ^ 59 ⌝ ∗ ⌜ count ≤ 6 ⌝ }
     ensures wrote { λ r. ⌜ Wrote (now (sheet .entry)) at (bodyText positive (ruleAt (B·Book .meaning (now (book .entry))) rule) count) (now (sheet .exit)) r ⌝ }
     ensures short { λ r. ⌜ r ≤ at + 128 ⌝ }

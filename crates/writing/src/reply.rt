@@ -5,14 +5,6 @@ ghost use Prim.Native.Nat.{_+_, _^_, _<_, _≤_};
 ghost use Rattle.writing.specs.Replies.{valuesText, refusalText, programAt, Replied, replyText};
 ghost use Rattle.text.specs.Written.{Wrote};
 use crate::canonical::canonical;
-use text::order::Word;
-use text::order::order_refused;
-use text::order::order_word;
-use text::sheet::put;
-use text::sheet::put_number;
-use text::stamp::RouteSpelled;
-use text::stamp::ThenSpelled;
-use text::stamp::TickSpelled;
 use books::fault::Fault;
 use books::fault::ReadFault;
 use books::fault::Refusal;
@@ -22,6 +14,14 @@ use makes::rows::RuleRow;
 use stamps::route::Route;
 use stamps::then::Then;
 use stamps::tick::Tick;
+use text::order::Word;
+use text::order::order_refused;
+use text::order::order_word;
+use text::sheet::put;
+use text::sheet::put_number;
+use text::stamp::RouteSpelled;
+use text::stamp::ThenSpelled;
+use text::stamp::TickSpelled;
 
 // The longest input that is read.
 pub const MAX_INPUT: usize = 65536;
@@ -53,7 +53,14 @@ fn put_refusal(sheet: &mut [u8], refusal: Refusal) -> usize
 }
 
 // The input's book in canonical spelling, whatever its order.
-fn canonical_of(text: &[u8], ticks: &mut [AtomRow<Tick>], routes: &mut [AtomRow<Route>], pairs: &mut [AtomRow<Then<Tick, Tick>>], rules: &mut [Option<RuleRow>], sheet: &mut [u8]) -> Result<usize, Fault>
+fn canonical_of(
+    text: &[u8],
+    ticks: &mut [AtomRow<Tick>],
+    routes: &mut [AtomRow<Route>],
+    pairs: &mut [AtomRow<Then<Tick, Tick>>],
+    rules: &mut [Option<RuleRow>],
+    sheet: &mut [u8],
+) -> Result<usize, Fault>
     ensures { λ r. ⌜ Replied (programAt (now (text .entry)) (length (now (ticks .entry))) (length (now (routes .entry))) (length (now (pairs .entry))) (length (now (rules .entry))) (length (now (sheet .entry)))) r (now (sheet .entry)) (now (sheet .exit)) ⌝ }
 {
     if text.len() > MAX_INPUT {
@@ -73,7 +80,14 @@ fn canonical_of(text: &[u8], ticks: &mut [AtomRow<Tick>], routes: &mut [AtomRow<
 
 // Writes the input's canonical text, or one line with the refusal, from the sheet's first byte on, and answers its length.
 // What falls beyond the sheet's end is only counted.
-pub fn reply(text: &[u8], ticks: &mut [AtomRow<Tick>], routes: &mut [AtomRow<Route>], pairs: &mut [AtomRow<Then<Tick, Tick>>], rules: &mut [Option<RuleRow>], sheet: &mut [u8]) -> usize
+pub fn reply(
+    text: &[u8],
+    ticks: &mut [AtomRow<Tick>],
+    routes: &mut [AtomRow<Route>],
+    pairs: &mut [AtomRow<Then<Tick, Tick>>],
+    rules: &mut [Option<RuleRow>],
+    sheet: &mut [u8],
+) -> usize
     ensures { λ r. ⌜ Wrote (now (sheet .entry)) 0 (replyText (programAt (now (text .entry)) (length (now (ticks .entry))) (length (now (routes .entry))) (length (now (pairs .entry))) (length (now (rules .entry))) (length (now (sheet .entry))))) (now (sheet .exit)) r ⌝ }
 {
     match canonical_of(text, ticks, routes, pairs, rules, sheet) {

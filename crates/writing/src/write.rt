@@ -5,10 +5,10 @@ ghost use Rattle.text.specs.Spelt.{bookText};
 ghost use Rattle.writing.specs.Writes.{bookGap, writeAnswer, sheetAfter};
 use crate::gaps::check_gaps;
 use crate::lines::put_book;
-use text::stamp::Spelled;
 use books::book::Book;
 use books::fault::CheckFault;
 use books::fault::Fault;
+use text::stamp::Spelled;
 
 // Writes the book from the sheet's first byte on, and answers the text's length.
 // A refused sheet is untouched; bytes beyond the text stay.

@@ -18,12 +18,13 @@ pub loop-turn-again : need.loop-turn-again
 loop-turn-again c =
     let l = c .loop-turn in
     elim (c .match-digit-at .came) [
-      in-Some w ↦
-        let more = digits-more (c .args .text .now) (c .args .at) (l .value) (l .next) (l .-turn) (Some (w .in-Some .digit)) (l .inv .0) (w .in-Some .ensures tt .value) in
-        (cc, omega (arith, one-digit-more (l .value) (w .in-Some .digit) (l .-turn) (l .inv .1) (w .in-Some .ensures tt .small)))
-    | in-rest w ↦
-        let more = digits-more (c .args .text .now) (c .args .at) (l .value) (l .next) (l .-turn) None (l .inv .0) (w .in-rest .ensures tt .value) in
-        (cc, omega (arith, no-digit-more (l .value) (l .-turn) (l .inv .1))) ]
+      | in-Some w ↦
+          let more = digits-more (c .args .text .now) (c .args .at) (l .value) (l .next) (l .-turn) (Some (w .in-Some .digit)) (l .inv .0) (w .in-Some .ensures tt .value) in
+          (cc, omega (arith, one-digit-more (l .value) (w .in-Some .digit) (l .-turn) (l .inv .1) (w .in-Some .ensures tt .small)))
+      | in-rest w ↦
+          let more = digits-more (c .args .text .now) (c .args .at) (l .value) (l .next) (l .-turn) None (l .inv .0) (w .in-rest .ensures tt .value) in
+          (cc, omega (arith, no-digit-more (l .value) (l .-turn) (l .inv .1)))
+    ]
 
 pub returns : need.returns
 returns c =

@@ -24,14 +24,15 @@ loop-turn-again g c =
     let stampAt = g .S·Spelled .stampAt in
     let spelling = g .S·Spelled .spelling in
     elim (c .if-not-is-finished .came) [
-      then-not-is-finished·in-Continue-form w ↦
-        let f = w .in-Continue-form in
-        let fits = roomier (c .args .room) (record { atoms = length (l .atoms); rules = length (l .rules) }) (l .reader) (f .form) (omega arith) (omega arith) (f .ensures tt .roomy) in
-        let more = reached-more stampAt spelling text (c .args .room) (l .-turn) (l .reader) (c .args .atoms .now) (l .atoms) (c .args .rules .now) (l .rules) (l .inv) (sym (w .if-not-is-finished .ensures tt)) (f .form) (f .next) (f .ensures tt .value) fits in
-        same-reached stampAt spelling text (c .args .room) _ _ _ _ _ _ _ _ _ (w .reader-is ∙ w .moved-reader .ensures) (w .atoms-is ∙ w .put .ensures .atoms) (w .rules-is ∙ w .put .ensures .rules) more
-    | else-not-is-finished w ↦
-        let stays = reached-stays stampAt spelling text (c .args .room) (l .-turn) (l .reader) (c .args .atoms .now) (l .atoms) (c .args .rules .now) (l .rules) (l .inv) (sym (w .if-not-is-finished .ensures tt)) in
-        same-reached stampAt spelling text (c .args .room) _ _ _ _ _ _ _ _ _ (w .reader-is) (w .atoms-is) (w .rules-is) stays ]
+      | then-not-is-finished·in-Continue-form w ↦
+          let f = w .in-Continue-form in
+          let fits = roomier (c .args .room) (record { atoms = length (l .atoms); rules = length (l .rules) }) (l .reader) (f .form) (omega arith) (omega arith) (f .ensures tt .roomy) in
+          let more = reached-more stampAt spelling text (c .args .room) (l .-turn) (l .reader) (c .args .atoms .now) (l .atoms) (c .args .rules .now) (l .rules) (l .inv) (sym (w .if-not-is-finished .ensures tt)) (f .form) (f .next) (f .ensures tt .value) fits in
+          same-reached stampAt spelling text (c .args .room) _ _ _ _ _ _ _ _ _ (w .reader-is ∙ w .moved-reader .ensures) (w .atoms-is ∙ w .put .ensures .atoms) (w .rules-is ∙ w .put .ensures .rules) more
+      | else-not-is-finished w ↦
+          let stays = reached-stays stampAt spelling text (c .args .room) (l .-turn) (l .reader) (c .args .atoms .now) (l .atoms) (c .args .rules .now) (l .rules) (l .inv) (sym (w .if-not-is-finished .ensures tt)) in
+          same-reached stampAt spelling text (c .args .room) _ _ _ _ _ _ _ _ _ (w .reader-is) (w .atoms-is) (w .rules-is) stays
+    ]
 
 pub returns-in-Break-form : need.returns-in-Break-form
 returns-in-Break-form g c =
@@ -44,7 +45,8 @@ pub returns : need.returns
 unfolding progressAt
 returns g c =
     let l = c .loop-turn in
-    let done : l .-turn ≡ length (c .args .text .now) = omega arith in
-    (record { reader = l .reader; atoms = l .inv .0; rules = l .inv .1 },
+    let done : l .-turn ≡ length (c .args .text .now) = omega arith in (
+      record { reader = l .reader; atoms = l .inv .0; rules = l .inv .1 },
       l .inv .2 ∙ ap (tries (oneForm (g .S·Spelled .stampAt) (g .S·Spelled .spelling) (c .args .text .now) (c .args .room)) startProgress) done,
-      l .inv .3)
+      l .inv .3,
+    )

@@ -26,16 +26,17 @@ loop-turn-again c =
     let q = noAtom (c .in-Continue-more .more, c .in-Continue-more .next) in
     let room : l .count ≤ length (l .atoms) = omega arith in
     elim (c .if-more .came) [
-      then-more·in-Continue-atom w ↦
-        let a = w .in-Continue-atom in
-        let few : l .count < 6 = a .ensures tt .few in
-        let under : l .count < length (l .atoms) = omega arith in
-        let kept : length (set (l .atoms) (l .count) (a .atom)) ≡ length (l .atoms) = length-set (l .atoms) (l .count) (a .atom) in
-        let more = literal-more (c .args .text .now) (c .args .site) (c .args .before) q (l .atoms) (l .count) (l .next) (l .-turn) (l .more) room (w .if-more .taken) (a .atom, a .goes-on, a .after) (a .ensures tt .value) under (l .inv .2) in
-        (ap length (w .atoms-is) ∙ kept ∙ l .inv .0, omega arith, cc)
-    | else-more w ↦
-        let same = literal-none (c .args .text .now) (c .args .site) (c .args .before) q (l .atoms) (l .count) (l .next) (l .-turn) (l .more) room (w .if-more .left) (l .inv .2) in
-        (ap length (w .atoms-is) ∙ l .inv .0, omega arith, cc) ]
+      | then-more·in-Continue-atom w ↦
+          let a = w .in-Continue-atom in
+          let few : l .count < 6 = a .ensures tt .few in
+          let under : l .count < length (l .atoms) = omega arith in
+          let kept : length (set (l .atoms) (l .count) (a .atom)) ≡ length (l .atoms) = length-set (l .atoms) (l .count) (a .atom) in
+          let more = literal-more (c .args .text .now) (c .args .site) (c .args .before) q (l .atoms) (l .count) (l .next) (l .-turn) (l .more) room (w .if-more .taken) (a .atom, a .goes-on, a .after) (a .ensures tt .value) under (l .inv .2) in
+          (ap length (w .atoms-is) ∙ kept ∙ l .inv .0, omega arith, cc)
+      | else-more w ↦
+          let same = literal-none (c .args .text .now) (c .args .site) (c .args .before) q (l .atoms) (l .count) (l .next) (l .-turn) (l .more) room (w .if-more .left) (l .inv .2) in
+          (ap length (w .atoms-is) ∙ l .inv .0, omega arith, cc)
+    ]
 
 pub returns-in-Break-more : need.returns-in-Break-more
 returns-in-Break-more c =

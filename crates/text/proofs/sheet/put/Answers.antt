@@ -16,8 +16,9 @@ loop-byte-again c =
     let more = laid-more (l .sheet) bytes (l .next) (l .byte-index) (c .loop-byte-test .taken) in
     let after : List ℕ → List ℕ = λ s. laid s (l .next + 1) (drop (l .byte-index + 1) bytes) in
     elim (c .if-next-sheet .came) [
-      then-next-sheet w ↦ (ap after (w .sheet-is) ∙ sym more ∙ l .inv .0, omega arith)
-    | else-next-sheet w ↦ (ap after (w .sheet-is ∙ sym (set-past (l .sheet) (l .next) (getD bytes (l .byte-index) 0) (w .if-next-sheet .left))) ∙ sym more ∙ l .inv .0, omega arith) ]
+      | then-next-sheet w ↦ (ap after (w .sheet-is) ∙ sym more ∙ l .inv .0, omega arith)
+      | else-next-sheet w ↦ (ap after (w .sheet-is ∙ sym (set-past (l .sheet) (l .next) (getD bytes (l .byte-index) 0) (w .if-next-sheet .left))) ∙ sym more ∙ l .inv .0, omega arith)
+    ]
 
 pub returns : need.returns
 returns c =

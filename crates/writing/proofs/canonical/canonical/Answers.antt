@@ -36,6 +36,6 @@ returns g c =
     let t = taken (c .args .atoms .now) (c .read .last .atoms) (c .args .rules .now) (c .read .last .rules) _ n (c .in-Continue-counts .ensures tt) in
     replied-as _ _ _ _ _
     (ap (λ xs. text (flatMeaning xs (c .front-2 .result .now))) (c .front .ensures)
-      ∙ ap (λ ys. text (flatMeaning (take (n .atoms) (c .read .last .atoms)) ys)) (c .front-2 .ensures)
-      ∙ sym (ap (λ r. andThen r text) (t .2)))
+    ∙ ap (λ ys. text (flatMeaning (take (n .atoms) (c .read .last .atoms)) ys)) (c .front-2 .ensures)
+    ∙ sym (ap (λ r. andThen r text) (t .2)))
     (c .write-checked .ensures)

@@ -20,8 +20,8 @@ returns-in-Break-check-rule g c =
     let end = c .rule-count-rule-end .ensures in
     rw (p .1, p .2)
     (refuses-here faultAt (c .loop-rule .rule) _ _ (c .loop-rule .inv) (c .in-Break-check-rule .ensures tt) (c .loop-rule-test .taken)
-        ∙ ap (λ n. unless (firstBelow n faultAt)) end
-        ∙ ap unless (sym (within (length (m .atoms)) (length (m .rules)) (Some TooLarge) (firstBelow (length (m .rules)) faultAt) atoms rules)))
+    ∙ ap (λ n. unless (firstBelow n faultAt)) end
+    ∙ ap unless (sym (within (length (m .atoms)) (length (m .rules)) (Some TooLarge) (firstBelow (length (m .rules)) faultAt) atoms rules)))
 
 pub loop-rule-again : need.loop-rule-again
 loop-rule-again g c =

@@ -13,9 +13,10 @@ returns g c =
     let kind = wrote-as (kindText (c .in-Some-reading .reading)) _ _ (sym (c .kind-word .ensures .value)) refl refl (c .put-at-2 .ensures) in
     record {
       wrote =
-        wrote-as _ _ _ (atom-text (g .Stamp·Spelled .spelt) (c .args .atom) o (c .in-Some .stamp) (c .in-Some-reading .reading) (c .in-Some .ensures tt) (c .in-Some-reading .ensures tt)) refl refl
-        (wrote-then (wrote-then (wrote-then (wrote-then (c .put-at .ensures) (c .put-number-at .ensures .wrote)) kind) (c .spell-at .ensures .wrote)) (c .put .ensures));
-      short = omega (arith, c .put-at .ensures .place, c .put-number-at .ensures .short, c .put-at-2 .ensures .place, c .kind-word .ensures .short, c .spell-at .ensures .short, c .put .ensures .place) }
+          wrote-as _ _ _ (atom-text (g .Stamp·Spelled .spelt) (c .args .atom) o (c .in-Some .stamp) (c .in-Some-reading .reading) (c .in-Some .ensures tt) (c .in-Some-reading .ensures tt)) refl refl
+          (wrote-then (wrote-then (wrote-then (wrote-then (c .put-at .ensures) (c .put-number-at .ensures .wrote)) kind) (c .spell-at .ensures .wrote)) (c .put .ensures));
+      short = omega (arith, c .put-at .ensures .place, c .put-number-at .ensures .short, c .put-at-2 .ensures .place, c .kind-word .ensures .short, c .spell-at .ensures .short, c .put .ensures .place);
+    }
 
 pub returns-in-rest : need.returns-in-rest
 returns-in-rest g c =

@@ -9,7 +9,8 @@ pub returns : need.returns
 returns c =
     record {
       wrote = wrote-as _ _ _ (item-next (c .args .i) (c .args .atom) (c .in-Some .atom) (c .in-Some .is) (c .if-i-eq0 .left)) refl refl (wrote-then (c .put-at .ensures) (c .put-number-2 .ensures .wrote));
-      short = omega (arith, c .put-at .ensures .place, c .put-number-2 .ensures .short) }
+      short = omega (arith, c .put-at .ensures .place, c .put-number-2 .ensures .short);
+    }
 
 pub returns-in-rest : need.returns-in-rest
 returns-in-rest c =

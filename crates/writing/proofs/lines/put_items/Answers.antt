@@ -13,9 +13,10 @@ loop-i-holds g c =
 pub loop-i-again : need.loop-i-again
 loop-i-again g c =
     let f = itemIn (c .args .positive) (ruleAt (g .B·Book .meaning (c .args .book .now)) (c .args .rule)) in
-    let i = c .loop-i .i in
-    (wrote-more f i (c .loop-i .inv .0) (wrote-as (f i) _ _ (sym (ap (item i) (c .literal-in .ensures))) refl refl (c .put-item-next .ensures .wrote)),
-      omega (arith, c .loop-i .inv .1, c .put-item-next .ensures .short))
+    let i = c .loop-i .i in (
+      wrote-more f i (c .loop-i .inv .0) (wrote-as (f i) _ _ (sym (ap (item i) (c .literal-in .ensures))) refl refl (c .put-item-next .ensures .wrote)),
+      omega (arith, c .loop-i .inv .1, c .put-item-next .ensures .short),
+    )
 
 pub returns : need.returns
 returns g c =

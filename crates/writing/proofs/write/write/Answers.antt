@@ -43,4 +43,5 @@ returns g c =
     let fits : length text ≤ length (c .args .sheet .now) = omega (arith, c .put-book-needed .ensures .place, c .if-needed-sheet .left) in
     record {
       answer = answer-fits (bookGap m) none _ _ _ (c .put-book .ensures .place) (omega (arith, c .put-book .ensures .place, fits));
-      sheet = c .put-book .ensures .held ∙ laid-front (c .args .sheet .now) text fits }
+      sheet = c .put-book .ensures .held ∙ laid-front (c .args .sheet .now) text fits;
+    }
