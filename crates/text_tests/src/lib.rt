@@ -1,4 +1,6 @@
 // Tests of the bracket text, which are many.
+#[cfg(test)]
+mod back;
 mod seven;
 
 use books::fault::Fault;
@@ -540,6 +542,13 @@ mod tests {
         };
         check(refused.number == 3 && refused.values == Values::RuleLiteral(0, 0))?;
         check(begins_with(&sheet, b"", 0))
+    }
+
+    #[test]
+    fn a_longer_input_is_not_read() -> Result<(), Fail> {
+        let long = [b'('; 65537];
+        check(replies(&long, b"(no 3 0)\n"))?;
+        check(replies(&long[0..65536], b"(no 1 1)\n"))
     }
 
     #[test]
