@@ -47,9 +47,11 @@ const SLOTS: [Slot; 2] = [
     },
 ];
 
-const REPEATED: &[u8] = b"(order then)\n(atom 0 in (0 0))\n(atom 1 out (0 1))\n(atom 2 in (1 0))\n(atom 3 out (1 1))\n(void 0)\n(rule 1 3 (2) (1))\n(end)\n";
+const REPEATED: &[u8] =
+    b"(order then)\n(atom 0 in (0 0))\n(atom 1 out (0 1))\n(atom 2 in (1 0))\n(atom 3 out (1 1))\n(void 0)\n(rule 1 3 (2) (1))\n(end)\n";
 
-const STRUCK: &[u8] = b"(order then)\n(atom 0 in (0 0))\n(atom 1 out (0 1))\n(atom 2 in (1 0))\n(atom 3 out (1 1))\n(void 0)\n(void 1)\n(end)\n";
+const STRUCK: &[u8] =
+    b"(order then)\n(atom 0 in (0 0))\n(atom 1 out (0 1))\n(atom 2 in (1 0))\n(atom 3 out (1 1))\n(void 0)\n(void 1)\n(end)\n";
 
 // The text is read, and the book that was read is written as the same text.
 fn comes_back(text: &[u8]) -> Result<(), Fail> {
