@@ -67,10 +67,10 @@ makingFault slots ticks patterns =
     cond (ltb 1024 (length slots * ticks) || ltb 1024 (length patterns * ticks)) (Some TooLarge)
     (firstBelow (length patterns) (λ k. bindSome (patternFault (length slots) k) (nth patterns k)))
 
--- what a book means after a making: what was asked for, or what it meant before where that is refused
-abbrev pub madeMeaning : {X : Type 0} → Option CheckFault → X → X → X
-madeMeaning None asked before = asked
-madeMeaning (Some f) asked before = before
+-- what a book has after a making: what was asked for, or what it had before where that is refused
+abbrev pub madeOf : {X : Type 0} → Option CheckFault → X → X → X
+madeOf None asked before = asked
+madeOf (Some f) asked before = before
 
 -- there is none
 abbrev pub isNone : {X : Type 0} → Option X → Bool

@@ -9,7 +9,7 @@ ghost use Rattle.std.specs.Finite.{nth};
 ghost use Rattle.books.specs.Check.{firstBelow, unless};
 ghost use Rattle.books.specs.Meaning.{bindSome};
 ghost use Rattle.makes.specs.Bodies.{bodyItems};
-ghost use Rattle.makes.specs.Repeats.{stepFault, steps, patternFault, makingFault, madeMeaning, repeatingMeaning};
+ghost use Rattle.makes.specs.Repeats.{stepFault, steps, patternFault, makingFault, madeOf, repeatingMeaning};
 use crate::patterns::Pattern;
 use crate::patterns::Slot;
 use crate::patterns::Step;
@@ -100,7 +100,7 @@ fn check_patterns(patterns: &[Pattern], width: usize) -> Result<(), Fault>
 impl<'a> Repeating<'a> {
     // The book without slots, patterns and ticks.
     pub fn empty() -> Repeating<'a>
-        ensures { λ r. ⌜ repeatingMeaning (seen (r .slots)) (r .ticks) (seen (r .patterns)) ≡ repeatingMeaning [] 0 [] ⌝ }
+        ensures { λ r. ⌜ (seen (r .slots) ≡ []) × (r .ticks ≡ 0) × (seen (r .patterns) ≡ []) ⌝ }
     {
         Repeating {
             slots: &[],
@@ -117,7 +117,10 @@ impl<'a> Repeating<'a> {
         patterns: &'a [Pattern],
     ) -> Result<(), Fault>
         ensures answer { λ r. ⌜ r ≡ unless (makingFault (now (slots .entry)) ticks (now (patterns .entry))) ⌝ }
-        ensures meaning { λ _. ⌜ repeatingMeaning (seen (now (self .exit) .slots)) (now (self .exit) .ticks) (seen (now (self .exit) .patterns)) ≡ madeMeaning (makingFault (now (slots .entry)) ticks (now (patterns .entry))) (repeatingMeaning (now (slots .entry)) ticks (now (patterns .entry))) (repeatingMeaning (seen (now (self .entry) .slots)) (now (self .entry) .ticks) (seen (now (self .entry) .patterns))) ⌝ }
+        ensures slots { λ _. ⌜ seen (now (self .exit) .slots) ≡ madeOf (makingFault (now (slots .entry)) ticks (now (patterns .entry))) (now (slots .entry)) (seen (now (self .entry) .slots)) ⌝ }
+        ensures ticks { λ _. ⌜ now (self .exit) .ticks ≡ madeOf (makingFault (now (slots .entry)) ticks (now (patterns .entry))) ticks (now (self .entry) .ticks) ⌝ }
+        ensures patterns { λ _. ⌜ seen (now (self .exit) .patterns) ≡ madeOf (makingFault (now (slots .entry)) ticks (now (patterns .entry))) (now (patterns .entry)) (seen (now (self .entry) .patterns)) ⌝ }
+        ensures meaning { λ _. ⌜ repeatingMeaning (seen (now (self .exit) .slots)) (now (self .exit) .ticks) (seen (now (self .exit) .patterns)) ≡ madeOf (makingFault (now (slots .entry)) ticks (now (patterns .entry))) (repeatingMeaning (now (slots .entry)) ticks (now (patterns .entry))) (repeatingMeaning (seen (now (self .entry) .slots)) (now (self .entry) .ticks) (seen (now (self .entry) .patterns))) ⌝ }
     {
         if !is_within(slots.len(), ticks) || !is_within(patterns.len(), ticks) {
             return Err(Fault::Checking(CheckFault::TooLarge));
