@@ -1,0 +1,4 @@
+pub mod Pieces
+pub mod Stamps
+pub mod Grammar
+pub mod Agreement
