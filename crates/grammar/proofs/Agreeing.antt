@@ -43,15 +43,15 @@ at-byte-both (Checking x) P Q a b = tt
 pub not-at-byte : (e : Fault) (P : ℕ → Type 0) → AtByte e (λ _. ⊥) → AtByte e P
 not-at-byte e P h = at-byte-map e (λ k x. absurd x) h
 
-same-below : (text other : List ℕ) (m n : ℕ) → m ≤ n → Same text other n → Same text other m
+pub same-below : (text other : List ℕ) (m n : ℕ) → m ≤ n → Same text other n → Same text other m
 same-below text other m n h same i l = same i (omega arith)
 
 -- an answer's place is not before a place
-abbrev Reaches : {X : Type 0} → ℕ → Result (X × ℕ) Fault → Type 0
+abbrev pub Reaches : {X : Type 0} → ℕ → Result (X × ℕ) Fault → Type 0
 Reaches n (Ok p) = n ≤ p .1
 Reaches n (Err e) = AtByte e (λ k. n ≤ k)
 
-seen-reaches : {X : Type 0} (G : Care → X → List ℕ → Type 0) (r : Result (X × ℕ) Fault) (text : List ℕ) (at : ℕ) → Seen G r text at → Reaches at r
+pub seen-reaches : {X : Type 0} (G : Care → X → List ℕ → Type 0) (r : Result (X × ℕ) Fault) (text : List ℕ) (at : ℕ) → Seen G r text at → Reaches at r
 seen-reaches G (Ok p) text at (piece, b, g) = omega (arith, b .place)
 seen-reaches G (Err e) text at h = at-byte-map e (λ k s. omega (arith, s .3 .place)) h
 
