@@ -8,7 +8,7 @@ use native.Mathlib.Omega.{arith}
 use lib.ListN.{length, getD}
 use Rattle.std.proofs.shelf.Decimals.{decimal-reads, decimal-digit, decimal-value, first-decimal, length-decimal-le}
 use Rattle.std.proofs.shelf.Lists.{append-assoc, append-nil}
-use Rattle.std.proofs.shelf.Numerals.{numerals-by-value, tells-digits}
+use Rattle.std.proofs.shelf.Numerals.{numerals-by-value, tells-digits, value-short}
 use Rattle.std.proofs.shelf.Tests.{cases-eq, ne-eqb}
 use Rattle.std.specs.Finite.{nth, All}
 use Rattle.std.specs.Reads.{Digits}
@@ -46,12 +46,14 @@ numeral-canonical limit n h l =
       few = length-decimal-le 10 n (omega arith) (omega arith) (omega arith);
       means = reads .1;
       within = h;
-      plainly = no-leading-zero n (omega arith)
+      plainly = no-leading-zero n (omega arith);
     }
 
-pub numeral-unique : (limit n : ℕ) (text : List ℕ) → limit ≤ 4294967295 → Numeral plain limit n text → text ≡ decimal n
-numeral-unique limit n text l h =
-    sym (decimal-value (numerals-by-value (Digits 10) tells-digits) text (h .digits) (omega (arith, h .some)) (h .plainly) (omega (arith, h .means, h .within)))
+-- ten digits are few enough for any limit
+pub numeral-unique : (limit n : ℕ) (text : List ℕ) → Numeral plain limit n text → text ≡ decimal n
+numeral-unique limit n text h =
+    let own = numerals-by-value (Digits 10) tells-digits in
+    sym (decimal-value own text (h .digits) (omega (arith, h .some)) (h .plainly) (omega (arith, value-short own text 10 (h .digits) (h .few))))
     ∙ ap decimal (h .means)
 
 -- the numbers after the first, each after a space
@@ -100,28 +102,29 @@ items-text (x ∷ xs) =
 pub list-text : (xs : List ℕ) → listText xs ≡ opening ++ (spacedText xs ++ shutting)
 list-text xs = ap (λ t. opening ++ (t ++ shutting)) (items-text xs)
 
-module _ (limit : ℕ) (l : limit ≤ 4294967295) where
-  spaced-canonical : (xs : List ℕ) → All (λ n. n ≤ limit) xs → Spaced plain limit xs (spacedText xs)
-  spaced-canonical [] h = refl
-  spaced-canonical (x ∷ []) h = subst (Numeral plain limit x) (sym (append-nil (decimal x))) (numeral-canonical limit x (h .0) l)
-  spaced-canonical (x ∷ y ∷ xs) h =
-      followed-by (decimal x) (space ++ spacedText (y ∷ xs)) (numeral-canonical limit x (h .0) l) (followed-by space (spacedText (y ∷ xs)) refl (spaced-canonical (y ∷ xs) (h .1)))
+spaced-canonical : (limit : ℕ) (xs : List ℕ) → limit ≤ 4294967295 → All (λ n. n ≤ limit) xs → Spaced plain limit xs (spacedText xs)
+spaced-canonical limit [] l h = refl
+spaced-canonical limit (x ∷ []) l h = subst (Numeral plain limit x) (sym (append-nil (decimal x))) (numeral-canonical limit x (h .0) l)
+spaced-canonical limit (x ∷ y ∷ xs) l h =
+    followed-by (decimal x) (space ++ spacedText (y ∷ xs)) (numeral-canonical limit x (h .0) l)
+    (followed-by space (spacedText (y ∷ xs)) refl (spaced-canonical limit (y ∷ xs) l (h .1)))
 
-  spaced-unique : (xs text : List ℕ) → Spaced plain limit xs text → text ≡ spacedText xs
-  spaced-unique [] text h = h
-  spaced-unique (x ∷ []) text h = numeral-unique limit x text l h ∙ sym (append-nil (decimal x))
-  spaced-unique (x ∷ y ∷ xs) text h =
-      followed-unique (decimal x) (space ++ spacedText (y ∷ xs)) text (λ t. numeral-unique limit x t l)
-      (λ t. followed-unique space (spacedText (y ∷ xs)) t (λ s e. e) (λ s. spaced-unique (y ∷ xs) s)) h
+spaced-unique : (limit : ℕ) (xs text : List ℕ) → Spaced plain limit xs text → text ≡ spacedText xs
+spaced-unique limit [] text h = h
+spaced-unique limit (x ∷ []) text h = numeral-unique limit x text h ∙ sym (append-nil (decimal x))
+spaced-unique limit (x ∷ y ∷ xs) text h =
+    followed-unique (decimal x) (space ++ spacedText (y ∷ xs)) text (numeral-unique limit x)
+    (λ t. followed-unique space (spacedText (y ∷ xs)) t (λ s e. e) (λ s. spaced-unique limit (y ∷ xs) s)) h
 
-  pub list-canonical : (xs : List ℕ) → All (λ n. n ≤ limit) xs → Listed plain limit xs (listText xs)
-  list-canonical xs h =
-      subst (Listed plain limit xs) (sym (list-text xs)) (followed-by opening (spacedText xs ++ shutting) refl (followed-by (spacedText xs) shutting (spaced-canonical xs h) refl))
+pub list-canonical : (limit : ℕ) (xs : List ℕ) → limit ≤ 4294967295 → All (λ n. n ≤ limit) xs → Listed plain limit xs (listText xs)
+list-canonical limit xs l h =
+    subst (Listed plain limit xs) (sym (list-text xs))
+    (followed-by opening (spacedText xs ++ shutting) refl (followed-by (spacedText xs) shutting (spaced-canonical limit xs l h) refl))
 
-  pub list-unique : (xs text : List ℕ) → Listed plain limit xs text → text ≡ listText xs
-  list-unique xs text h =
-      followed-unique opening (spacedText xs ++ shutting) text (λ t e. e) (λ t. followed-unique (spacedText xs) shutting t (spaced-unique xs) (λ s e. e)) h
-      ∙ sym (list-text xs)
+pub list-unique : (limit : ℕ) (xs text : List ℕ) → Listed plain limit xs text → text ≡ listText xs
+list-unique limit xs text h =
+    followed-unique opening (spacedText xs ++ shutting) text (λ t e. e) (λ t. followed-unique (spacedText xs) shutting t (spaced-unique limit xs) (λ s e. e)) h
+    ∙ sym (list-text xs)
 
 kept-both : (c : Care) (P Q : Type 0) → Kept c P → Kept c Q → Kept c (P × Q)
 kept-both shape P Q p q = tt
@@ -147,7 +150,7 @@ pub tick-canonical : (t : Tick) → t .0 ≤ 4294967295 → TickSpelt plain t (t
 tick-canonical t h = numeral-canonical 4294967295 (t .0) h (omega arith)
 
 pub tick-unique : (t : Tick) (text : List ℕ) → TickSpelt plain t text → text ≡ tickText t
-tick-unique t text h = numeral-unique 4294967295 (t .0) text (omega arith) h
+tick-unique t text h = numeral-unique 4294967295 (t .0) text h
 
 -- a tick that is read fits
 pub tick-fits : (t : Tick) (text : List ℕ) → TickSpelt kept t text → t .0 ≤ 4294967295

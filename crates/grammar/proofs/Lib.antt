@@ -1,3 +1,4 @@
 pub mod Places
 pub mod Agreeing
 pub mod Canonical
+pub mod Routes
