@@ -2,3 +2,4 @@ pub mod Pieces
 pub mod Stamps
 pub mod Grammar
 pub mod Agreement
+pub mod Theorems
