@@ -19,13 +19,13 @@ use Rattle.grammar.specs.Grammar.{Spells}
 
 -- tables of these lengths, and the limits of a book, take the book
 pub record Takes {S : Type 0} (atoms rules : ℕ) (m : Meaning S) : Type 0 where
-  pub atoms : length (m .atoms) ≤ min atoms 1024
-  pub rules : length (m .rules) ≤ min rules 1024
+  pub fewAtoms : length (m .atoms) ≤ min atoms 1024
+  pub fewRules : length (m .rules) ≤ min rules 1024
 
 module _ {S : Type 0} (stampAt : List ℕ → ℕ → Result (S × ℕ) Fault) (word : List ℕ) (spells : Care → S → List ℕ → Type 0) (spelt : S → List ℕ) (Fits : S → Type 0) where
   -- a text is read as a book exactly where it spells the book, keeping every rule, and the tables take it
   pub record ReadAsSpelt (text : List ℕ) (atoms rules : ℕ) (m : Meaning S) : Type 0 where
-    pub spells : bookAt stampAt word text (roomOf atoms rules) ≡ Ok m → Spells word spells kept m text
+    pub spelling : bookAt stampAt word text (roomOf atoms rules) ≡ Ok m → Spells word spells kept m text
     pub takes : bookAt stampAt word text (roomOf atoms rules) ≡ Ok m → Takes atoms rules m
     pub reads : Spells word spells kept m text → Takes atoms rules m → bookAt stampAt word text (roomOf atoms rules) ≡ Ok m
 
