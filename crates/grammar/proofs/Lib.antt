@@ -6,3 +6,5 @@ pub mod Canonical
 pub mod Routes
 pub mod Lists
 pub mod Lines
+pub mod Turning
+pub mod Bodies
