@@ -247,12 +247,25 @@ module _ (byte : ℕ) where
           inl (ap unsaid (pass-byte text at here) ∙ ap (λ n. Ok (tt, n)) place)
       }
 
-  -- a byte that must stand there, and then the rest
-  pub byte-then : {Y : Type 0} (K : List ℕ → ℕ → Result (Y × ℕ) Fault) (G : Care → Y → List ℕ → Type 0) (Stop : List ℕ → Type 0) → Agrees K G Stop → Agrees (λ text at. andThen (passAt byte text at) (K text)) (λ c y. Followed (Exactly (byte ∷ [])) (G c y)) Stop
-  byte-then K G Stop a =
-      agrees-same _ _ _ Stop (λ text at. then-then (passAt byte text at) (λ n. Ok (tt, n)) (λ p. K text (p .1)))
+  -- a byte that must stand there, and then what may go by its place
+  pub byte-then-at : {Y : Type 0} (K : ℕ → List ℕ → ℕ → Result (Y × ℕ) Fault) (G : Care → Y → List ℕ → Type 0) (Stop : List ℕ → Type 0) → ((at : ℕ) → Agrees (K at) G Stop) → Agrees (λ text at. andThen (passAt byte text at) (K at text)) (λ c y. Followed (Exactly (byte ∷ [])) (G c y)) Stop
+  byte-then-at K G Stop a =
+      agrees-same _ _ _ Stop (λ text at. then-then (passAt byte text at) (λ n. Ok (tt, n)) (λ p. K at text (p .1)))
       (agrees-as _ (Via Byted (λ u. G)) _ Stop (λ c y piece v. v .parts) (λ c y piece f. record { value = tt; parts = f })
-      (agrees-then (λ text at. unsaid (passAt byte text at)) (λ at u. K) Byted (λ u. G) (λ _. Unit {0}) Stop agrees-byte (λ at u. a) (λ c u y piece rest h s. tt)))
+      (agrees-then (λ text at. unsaid (passAt byte text at)) (λ at u. K at) Byted (λ u. G) (λ _. Unit {0}) Stop agrees-byte (λ at u. a at) (λ c u y piece rest h s. tt)))
+
+  -- the same, where the rest does not go by it
+  pub byte-then : {Y : Type 0} (K : List ℕ → ℕ → Result (Y × ℕ) Fault) (G : Care → Y → List ℕ → Type 0) (Stop : List ℕ → Type 0) → Agrees K G Stop → Agrees (λ text at. andThen (passAt byte text at) (K text)) (λ c y. Followed (Exactly (byte ∷ [])) (G c y)) Stop
+  byte-then K G Stop a = byte-then-at (λ at. K) G Stop (λ at. a)
+
+-- a byte and then a word are one word
+pub word-to : (b : ℕ) (word : List ℕ) (A : List ℕ → Type 0) (piece : List ℕ) → Followed (Exactly (b ∷ [])) (Followed (Exactly word) A) piece → Followed (Exactly (b ∷ word)) A piece
+word-to b word A piece f =
+    record { front = b ∷ word; back = f .second .back; whole = f .whole ∙ ap (λ t. t ++ f .back) (f .first) ∙ ap (λ t. b ∷ t) (f .second .whole ∙ ap (λ t. t ++ f .second .back) (f .second .first)); first = refl; second = f .second .second }
+
+pub word-from : (b : ℕ) (word : List ℕ) (A : List ℕ → Type 0) (piece : List ℕ) → Followed (Exactly (b ∷ word)) A piece → Followed (Exactly (b ∷ [])) (Followed (Exactly word) A) piece
+word-from b word A piece f =
+    record { front = b ∷ []; back = word ++ f .back; whole = f .whole ∙ ap (λ t. t ++ f .back) (f .first); first = refl; second = record { front = word; back = f .back; whole = refl; first = refl; second = f .second } }
 
 -- a word that must stand there, and then the rest
 pub word-then : {Y : Type 0} (word : List ℕ) (K : List ℕ → ℕ → Result (Y × ℕ) Fault) (G : Care → Y → List ℕ → Type 0) (Stop : List ℕ → Type 0) → Agrees K G Stop → Agrees (λ text at. andThen (passWord word text at) (K text)) (λ c y. Followed (Exactly word) (G c y)) Stop
@@ -263,8 +276,6 @@ word-then [] K G Stop a =
     (λ c y piece f. subst (G c y) (sym (f .whole ∙ ap (λ t. t ++ f .back) (f .first))) (f .second))
     a
 word-then (b ∷ word) K G Stop a =
-    agrees-as _ _ _ Stop
-    (λ c y piece f. record { front = b ∷ word; back = f .second .back; whole = f .whole ∙ ap (λ t. t ++ f .back) (f .first) ∙ ap (λ t. b ∷ t) (f .second .whole ∙ ap (λ t. t ++ f .second .back) (f .second .first)); first = refl; second = f .second .second })
-    (λ c y piece f. record { front = b ∷ []; back = word ++ f .back; whole = f .whole ∙ ap (λ t. t ++ f .back) (f .first); first = refl; second = record { front = word; back = f .back; whole = refl; first = refl; second = f .second } })
+    agrees-as _ _ _ Stop (λ c y piece. word-to b word (G c y) piece) (λ c y piece. word-from b word (G c y) piece)
     (agrees-same _ _ _ Stop (λ text at. sym (then-then (passAt b text at) (passWord word text) (K text)))
     (byte-then b (λ text at. andThen (passWord word text at) (K text)) (λ c y. Followed (Exactly word) (G c y)) Stop (word-then word K G Stop a)))
