@@ -28,6 +28,7 @@ use Rattle.stamps.specs.declared.then.Then.{Then}
 use Rattle.text.specs.Forms.{closing}
 use Rattle.text.specs.Kinds.{orderOpening, atomOpening, ruleOpening, voidOpening}
 use Rattle.text.specs.Spelt.{upTo, space, listText, kindText, atomText, ruleText, atomLineOf, ruleLineOf, endText, bookText}
+use Rattle.writing.proofs.Gapless.{small-atoms, small-rules}
 use Rattle.writing.specs.Writes.{missing, literalGap, ruleGap, bookGap}
 use Rattle.grammar.specs.Pieces.{Care, kept, plain, Exactly, Followed, Numeral, Spaced, Listed}
 use Rattle.grammar.specs.Grammar.{Numbered, Declared, Body, AtomForm, RuleForm, AtomForms, RuleForms, OrderForm, Spells}
@@ -291,3 +292,165 @@ module _ {S : Type 0} (m : Meaning S) where
   sound-gapless a b s =
       within (length (m .atoms)) (length (m .rules)) _ _ a b
       ∙ first-all (ruleGap m) (length (m .rules)) (λ k l. gap-none k (ruleAt m k) refl (rule-of (Sounds count) (m .rules) k l s))
+
+numeral-plain-kept : (limit n : ℕ) (text : List ℕ) → Numeral plain limit n text → Numeral kept limit n text
+numeral-plain-kept limit n text h = record { digits = h .digits; some = h .some; few = h .few; means = h .means; within = h .within; plainly = tt }
+
+spaced-plain-kept : (limit : ℕ) (ns text : List ℕ) → Spaced plain limit ns text → Spaced kept limit ns text
+spaced-plain-kept limit [] text h = h
+spaced-plain-kept limit (n ∷ []) text h = numeral-plain-kept limit n text h
+spaced-plain-kept limit (n ∷ m ∷ ns) text h =
+    followed-map _ _ _ _ text (numeral-plain-kept limit n) (λ t. followed-map _ _ _ _ t (λ u e. e) (spaced-plain-kept limit (m ∷ ns))) h
+
+list-plain-kept : (limit : ℕ) (ns text : List ℕ) → Listed plain limit ns text → Listed kept limit ns text
+list-plain-kept limit ns text h = followed-map _ _ _ _ text (λ t e. e) (λ t. followed-map _ _ _ _ t (spaced-plain-kept limit ns) (λ u e. e)) h
+
+pub tick-plain-kept : (t : Tick) (text : List ℕ) → TickSpelt plain t text → TickSpelt kept t text
+tick-plain-kept t text h = numeral-plain-kept 4294967295 (t .0) text h
+
+pub pair-plain-kept : (p : Then Tick Tick) (text : List ℕ) → PairSpelt plain p text → PairSpelt kept p text
+pair-plain-kept p text h =
+    followed-map _ _ _ _ text (λ t e. e)
+    (λ t. followed-map _ _ _ _ t (tick-plain-kept (p .first))
+    (λ t. followed-map _ _ _ _ t (λ u e. e)
+    (λ t. followed-map _ _ _ _ t (tick-plain-kept (p .second)) (λ u e. e)))) h
+
+pub route-plain-kept : (r : Route) (text : List ℕ) → RouteSpelt plain r text → RouteSpelt kept r text
+route-plain-kept r text h = record { aisles = h .aisles; listed = list-plain-kept 63 (h .aisles) text (h .listed); rising = h .rising; means = h .means }
+
+numbered-plain-kept : (k : ℕ) (text : List ℕ) → Numbered plain k text → Numbered kept k text
+numbered-plain-kept k text h = record { number = h .number; spelt = numeral-plain-kept 4294967295 (h .number) text (h .spelt); next = h .next }
+
+declared-plain-kept : (atoms n : ℕ) (text : List ℕ) → Declared plain atoms n text → Declared kept atoms n text
+declared-plain-kept atoms n text h = record { spelt = numeral-plain-kept 4294967295 n text (h .spelt); declared = h .declared }
+
+body-plain-kept : (atoms : ℕ) (ns text : List ℕ) → Body plain atoms ns text → Body kept atoms ns text
+body-plain-kept atoms ns text h = record { listed = list-plain-kept 4294967295 ns text (h .listed); few = h .few; declared = h .declared }
+
+rule-plain-kept : (atoms k : ℕ) (o : Option Rule) (text : List ℕ) → RuleForm plain atoms k o text → RuleForm kept atoms k o text
+rule-plain-kept atoms k None text h =
+    followed-map _ _ _ _ text (λ t e. e) (λ t. followed-map _ _ _ _ t (numbered-plain-kept k) (λ u e. e)) h
+rule-plain-kept atoms k (Some r) text h =
+    followed-map _ _ _ _ text (λ t e. e)
+    (λ t. followed-map _ _ _ _ t (numbered-plain-kept k)
+    (λ t. followed-map _ _ _ _ t (λ u e. e)
+    (λ t. followed-map _ _ _ _ t (declared-plain-kept atoms (r .head))
+    (λ t. followed-map _ _ _ _ t (λ u e. e)
+    (λ t. followed-map _ _ _ _ t (body-plain-kept atoms (r .positives))
+    (λ t. followed-map _ _ _ _ t (λ u e. e)
+    (λ t. followed-map _ _ _ _ t (body-plain-kept atoms (r .negatives)) (λ u e. e)))))))) h
+
+rules-plain-kept : (atoms k : ℕ) (os : List (Option Rule)) (text : List ℕ) → RuleForms plain atoms k os text → RuleForms kept atoms k os text
+rules-plain-kept atoms k [] text h = h
+rules-plain-kept atoms k (o ∷ os) text h = followed-map _ _ _ _ text (rule-plain-kept atoms k o) (rules-plain-kept atoms (k + 1) os) h
+
+module _ {S : Type 0} (word : List ℕ) (spells : Care → S → List ℕ → Type 0) (spelt : S → List ℕ) (Fits : S → Type 0) where
+  abbrev atomLine : ℕ → Atom S → List ℕ
+  atomLine i a = atomText spelt i (Some a)
+
+  -- an atom's line, bracketed as the grammar has it
+  module _ (i : ℕ) (a : Atom S) where
+    abbrev afterKind : List ℕ
+    afterKind = spelt (a .stamp) ++ closing
+
+    atom-text : atomLine i a ≡ atomOpening ++ (decimal i ++ (kindText (a .reading) ++ afterKind))
+    atom-text = append-five atomOpening (decimal i) (kindText (a .reading)) (spelt (a .stamp)) closing
+
+    atom-canonical : i < 1024 → spells plain (a .stamp) (spelt (a .stamp)) → AtomForm spells plain i a (atomLine i a)
+    atom-canonical l s =
+        subst (AtomForm spells plain i a) (sym atom-text)
+        (followed-by atomOpening (decimal i ++ (kindText (a .reading) ++ afterKind)) refl
+        (followed-by (decimal i) (kindText (a .reading) ++ afterKind) (numbered-canonical i l)
+        (followed-by (kindText (a .reading)) afterKind refl (followed-by (spelt (a .stamp)) closing s refl))))
+
+    atom-unique : ((text : List ℕ) → spells plain (a .stamp) text → text ≡ spelt (a .stamp)) → (text : List ℕ) → AtomForm spells plain i a text → text ≡ atomLine i a
+    atom-unique s text h =
+        followed-unique atomOpening (decimal i ++ (kindText (a .reading) ++ afterKind)) text (exactly-unique atomOpening)
+        (λ t. followed-unique (decimal i) (kindText (a .reading) ++ afterKind) t (numbered-unique i)
+        (λ t. followed-unique (kindText (a .reading)) afterKind t (exactly-unique (kindText (a .reading)))
+        (λ t. followed-unique (spelt (a .stamp)) closing t s (exactly-unique closing)))) h
+        ∙ sym atom-text
+
+  abbrev Held : List (Atom S) → Type 0
+  Held xs = All (λ (a : Atom S). Fits (a .stamp)) xs
+
+  atoms-canonical : ((s : S) → Fits s → spells plain s (spelt s)) → (i : ℕ) (xs : List (Atom S)) → i + length xs ≤ 1024 → Held xs → AtomForms spells plain i xs (linesFrom atomLine i xs)
+  atoms-canonical s i [] l h = refl
+  atoms-canonical s i (a ∷ xs) l h =
+      followed-by (atomLine i a) (linesFrom atomLine (i + 1) xs) (atom-canonical i a (omega arith) (s (a .stamp) (h .0)))
+      (atoms-canonical s (i + 1) xs (omega arith) (h .1))
+
+  atoms-unique : ((s : S) (text : List ℕ) → spells plain s text → text ≡ spelt s) → (i : ℕ) (xs : List (Atom S)) (text : List ℕ) → AtomForms spells plain i xs text → text ≡ linesFrom atomLine i xs
+  atoms-unique s i [] text h = h
+  atoms-unique s i (a ∷ xs) text h =
+      followed-unique (atomLine i a) (linesFrom atomLine (i + 1) xs) text (atom-unique i a (s (a .stamp))) (atoms-unique s (i + 1) xs) h
+
+  -- the lines of the rules and the end, and those of the atoms before them
+  abbrev rest : Meaning S → List ℕ
+  rest m = linesFrom ruleText 0 (m .rules) ++ endText
+
+  abbrev lines : Meaning S → List ℕ
+  lines m = linesFrom atomLine 0 (m .atoms) ++ rest m
+
+  book-text : (m : Meaning S) → bookText word spelt m ≡ (orderOpening ++ (word ++ closing)) ++ lines m
+  unfolding bookText
+  book-text m =
+      let order = orderOpening ++ word ++ closing in
+      ap (λ t. order ++ t ++ upTo (ruleLineOf m) (length (m .rules)) ++ endText) (lines-text (atomText spelt) (m .atoms))
+      ∙ ap (λ t. order ++ linesFrom atomLine 0 (m .atoms) ++ t ++ endText) (lines-text (λ i o. ruleText i (flattened o)) (m .rules))
+      ∙ append-assoc (order ++ linesFrom atomLine 0 (m .atoms)) (linesFrom ruleText 0 (m .rules)) endText
+      ∙ append-assoc order (linesFrom atomLine 0 (m .atoms)) (rest m)
+      ∙ ap (λ t. t ++ lines m) (append-assoc orderOpening word closing)
+
+  -- the text that is written of a book spells it, with no leading zeros
+  pub book-canonical : ((s : S) → Fits s → spells plain s (spelt s)) → (m : Meaning S) → bookGap m ≡ None → All (λ (a : Atom S). Fits (a .stamp)) (m .atoms) → Spells word spells plain m (bookText word spelt m)
+  book-canonical s m e h =
+      let small : length (m .atoms) ≤ 1024 = small-atoms m e in
+      let few : length (m .rules) ≤ 1024 = small-rules m e in
+      subst (Spells word spells plain m) (sym (book-text m))
+      (followed-by (orderOpening ++ (word ++ closing)) (lines m) (followed-by orderOpening (word ++ closing) refl (followed-by word closing refl refl))
+      (followed-by (linesFrom atomLine 0 (m .atoms)) (rest m) (atoms-canonical s 0 (m .atoms) (omega arith) h)
+      (followed-by (linesFrom ruleText 0 (m .rules)) endText (rules-canonical (length (m .atoms)) 0 (m .rules) small (omega arith) (gapless-sound m e)) refl)))
+
+  -- and no other text does
+  pub book-unique : ((s : S) (text : List ℕ) → spells plain s text → text ≡ spelt s) → (m : Meaning S) (text : List ℕ) → Spells word spells plain m text → text ≡ bookText word spelt m
+  book-unique s m text h =
+      followed-unique (orderOpening ++ (word ++ closing)) (lines m) text
+      (λ t. followed-unique orderOpening (word ++ closing) t (exactly-unique orderOpening) (λ u. followed-unique word closing u (exactly-unique word) (exactly-unique closing)))
+      (λ t. followed-unique (linesFrom atomLine 0 (m .atoms)) (rest m) t (atoms-unique s 0 (m .atoms))
+      (λ u. followed-unique (linesFrom ruleText 0 (m .rules)) endText u (rules-unique (length (m .atoms)) 0 (m .rules)) (exactly-unique endText))) h
+      ∙ sym (book-text m)
+
+  atoms-held : ((s : S) (text : List ℕ) → spells kept s text → Fits s) → (i : ℕ) (xs : List (Atom S)) (text : List ℕ) → AtomForms spells kept i xs text → Held xs
+  atoms-held s i [] text h = tt
+  atoms-held s i (a ∷ xs) text h =
+      let stamped = h .first .second .second .second in
+      (s (a .stamp) (stamped .front) (stamped .first), atoms-held s (i + 1) xs (h .back) (h .second))
+
+  -- the machine holds the stamps of a book that is spelt
+  pub spelt-held : ((s : S) (text : List ℕ) → spells kept s text → Fits s) → (m : Meaning S) (text : List ℕ) → Spells word spells kept m text → All (λ (a : Atom S). Fits (a .stamp)) (m .atoms)
+  spelt-held s m text h = atoms-held s 0 (m .atoms) (h .second .front) (h .second .first)
+
+  -- a book that is spelt can be written
+  pub spelt-gapless : (m : Meaning S) (text : List ℕ) → Spells word spells kept m text → length (m .atoms) ≤ 1024 → length (m .rules) ≤ 1024 → bookGap m ≡ None
+  spelt-gapless m text h a b =
+      let ruled = h .second .second in
+      sound-gapless m a b (rules-sound (length (m .atoms)) 0 (m .rules) (ruled .front) (ruled .first))
+
+  atom-plain-kept : ((s : S) (text : List ℕ) → spells plain s text → spells kept s text) → (i : ℕ) (a : Atom S) (text : List ℕ) → AtomForm spells plain i a text → AtomForm spells kept i a text
+  atom-plain-kept s i a text h =
+      followed-map _ _ _ _ text (λ t e. e)
+      (λ t. followed-map _ _ _ _ t (numbered-plain-kept i)
+      (λ t. followed-map _ _ _ _ t (λ u e. e)
+      (λ t. followed-map _ _ _ _ t (s (a .stamp)) (λ u e. e)))) h
+
+  atoms-plain-kept : ((s : S) (text : List ℕ) → spells plain s text → spells kept s text) → (i : ℕ) (xs : List (Atom S)) (text : List ℕ) → AtomForms spells plain i xs text → AtomForms spells kept i xs text
+  atoms-plain-kept s i [] text h = h
+  atoms-plain-kept s i (a ∷ xs) text h = followed-map _ _ _ _ text (atom-plain-kept s i a) (atoms-plain-kept s (i + 1) xs) h
+
+  -- a canonical text keeps every rule
+  pub plain-kept : ((s : S) (text : List ℕ) → spells plain s text → spells kept s text) → (m : Meaning S) (text : List ℕ) → Spells word spells plain m text → Spells word spells kept m text
+  plain-kept s m text h =
+      followed-map _ _ _ _ text (λ t e. e)
+      (λ t. followed-map _ _ _ _ t (atoms-plain-kept s 0 (m .atoms))
+      (λ u. followed-map _ _ _ _ u (rules-plain-kept (length (m .atoms)) 0 (m .rules)) (λ v e. e))) h
