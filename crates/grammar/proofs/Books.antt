@@ -1,39 +1,30 @@
 -- The text that is written of a book is its one canonical spelling, and a book that is spelt is one that can be written.
-use Prim.Native.Nat.{ℕ, zero, suc, _+_, _<_, _≤_}
-use mathlib.Core.Bool.{Bool, true, false, cond, _||_}
+use Prim.Native.Nat.{ℕ, suc, _+_, _<_, _≤_}
 use mathlib.Core.List.{List, [], _∷_, _++_}
-use mathlib.Core.Logic.{_⊎_, inl, inr}
 use mathlib.Core.Path.{_≡_, refl, sym, ap, _∙_, subst}
-use native.Mathlib.Numerals.{add-one}
 use native.Mathlib.Omega.{arith}
-use lib.Dec.{ltb}
 use lib.ListN.{length}
-use Rattle.std.proofs.shelf.Elements.{all-append, all-weaker}
-use Rattle.std.proofs.shelf.Lists.{append-assoc, length-append}
-use Rattle.std.proofs.shelf.Maps.{nth-past}
-use Rattle.std.proofs.shelf.Tests.{cases-lt, or-parts, or-from, cond-true, cond-false, ltb-false, le-ltb}
+use Rattle.std.proofs.shelf.Elements.{all-weaker}
+use Rattle.std.proofs.shelf.Lists.{append-assoc}
 use Rattle.std.specs.Finite.{nth, All}
-use Rattle.std.specs.Options.{isSome, mapped, flattened}
+use Rattle.std.specs.Options.{flattened}
 use Rattle.std.specs.Written.{decimal}
 use Rattle.std.specs.declared.option.Option.{Option}
 use Rattle.std.specs.declared.option.Option.the-variants.{Some, None}
-use Rattle.books.proofs.First.{first-none, first-all, within}
-use Rattle.books.specs.Check.{firstBelow}
-use Rattle.books.specs.Meaning.{Rule, Atom, Meaning, bindSome, ruleAt, stampOf, literals, literalOf}
-use Rattle.books.specs.declared.fault.CheckFault.{CheckFault}
-use Rattle.books.specs.declared.fault.CheckFault.the-variants.{TooLarge, BodyTooLong, HeadMissing, LiteralMissing}
+use Rattle.books.specs.Meaning.{Rule, Atom, Meaning}
 use Rattle.stamps.specs.declared.tick.Tick.{Tick}
 use Rattle.stamps.specs.declared.route.Route.{Route}
 use Rattle.stamps.specs.declared.then.Then.{Then}
 use Rattle.text.specs.Forms.{closing}
 use Rattle.text.specs.Kinds.{orderOpening, atomOpening, ruleOpening, voidOpening}
-use Rattle.text.specs.Spelt.{upTo, space, listText, kindText, atomText, ruleText, atomLineOf, ruleLineOf, endText, bookText}
+use Rattle.text.specs.Spelt.{upTo, space, listText, kindText, atomText, ruleText, ruleLineOf, endText, bookText}
 use Rattle.writing.proofs.Gapless.{small-atoms, small-rules}
-use Rattle.writing.specs.Writes.{missing, literalGap, ruleGap, bookGap}
-use Rattle.grammar.specs.Pieces.{Care, kept, plain, Exactly, Followed, Numeral, Spaced, Listed}
-use Rattle.grammar.specs.Grammar.{Numbered, Declared, Body, AtomForm, RuleForm, AtomForms, RuleForms, OrderForm, Spells}
+use Rattle.writing.specs.Writes.{bookGap}
+use Rattle.grammar.specs.Pieces.{Care, kept, plain, Exactly, Numeral, Spaced, Listed}
+use Rattle.grammar.specs.Grammar.{Numbered, Declared, Body, AtomForm, RuleForm, AtomForms, RuleForms, Spells}
 use Rattle.grammar.specs.Stamps.{TickSpelt, PairSpelt, RouteSpelt}
 use Rattle.grammar.proofs.Canonical.{followed-by, followed-unique, numeral-canonical, numeral-unique, list-canonical, list-unique, up-to-same, up-to-first}
+use Rattle.grammar.proofs.Gaps.{Sound, Sounds, gapless-sound, sound-gapless}
 use Rattle.grammar.proofs.Lists.{followed-map}
 
 -- what f gives of each thing and its number, one after another from number k on
@@ -55,19 +46,6 @@ lines-text : {X : Type 0} (f : ℕ → Option X → List ℕ) (xs : List X) → 
 lines-text f xs =
     let same : (i : ℕ) → i ≡ 0 + i = λ i. omega arith in
     up-to-same _ _ (λ i. ap (λ n. f n (nth xs i)) (same i)) (length xs) ∙ lines-on f 0 xs
-
--- a rule that keeps the limits in a book of so many atoms
-record Sound (atoms : ℕ) (r : Rule) : Type 0 where
-  pub declared : r .head < atoms
-  pub fewPositives : length (r .positives) ≤ 6
-  pub fewNegatives : length (r .negatives) ≤ 6
-  pub positives : All (λ n. n < atoms) (r .positives)
-  pub negatives : All (λ n. n < atoms) (r .negatives)
-
--- a vacant number keeps them
-abbrev Sounds : ℕ → Option Rule → Type 0
-Sounds atoms None = Unit {0}
-Sounds atoms (Some r) = Sound atoms r
 
 numbered-canonical : (k : ℕ) → k < 1024 → Numbered plain k (decimal k)
 numbered-canonical k l = record { number = k; spelt = numeral-canonical 4294967295 k (omega arith) (omega arith); next = refl }
@@ -182,118 +160,7 @@ rules-sound : (atoms k : ℕ) (os : List (Option Rule)) (text : List ℕ) → Ru
 rules-sound atoms k [] text h = tt
 rules-sound atoms k (o ∷ os) text h = (rule-line-sound atoms k o (h .front) (h .first), rules-sound atoms (k + 1) os (h .back) (h .second))
 
--- no fault comes of a choice only where the choice is the other one
-passes : {X : Type 0} (b : Bool) (x : X) (o : Option X) → cond b (Some x) o ≡ None → (b ≡ false) × (o ≡ None)
-passes true x o e = let z : _≡_ {A = ℕ} 0 1 = cc in absurd (omega arith)
-passes false x o e = (refl, e)
-
-passes-on : {X : Type 0} (b : Bool) (x : X) (o : Option X) → cond b o (Some x) ≡ None → (b ≡ true) × (o ≡ None)
-passes-on true x o e = (refl, e)
-passes-on false x o e = let z : _≡_ {A = ℕ} 0 1 = cc in absurd (omega arith)
-
-all-parts : {X : Type 0} (P : X → Type 0) (xs ys : List X) → All P (xs ++ ys) → All P xs × All P ys
-all-parts P [] ys h = (tt, h)
-all-parts P (x ∷ xs) ys h = let rest = all-parts P xs ys (h .1) in ((h .0, rest .0), rest .1)
-
-each-rule : (P : Option Rule → Type 0) (os : List (Option Rule)) → ((k : ℕ) → k < length os → P (flattened (nth os k))) → All P os
-each-rule P [] h = tt
-each-rule P (o ∷ os) h = (h 0 (omega arith), each-rule P os (λ k l. h (suc k) (omega arith)))
-
-rule-of : (P : Option Rule → Type 0) (os : List (Option Rule)) (k : ℕ) → k < length os → All P os → P (flattened (nth os k))
-rule-of P [] k l h = absurd (omega arith)
-rule-of P (o ∷ os) zero l h = h .0
-rule-of P (o ∷ os) (suc k) l h = rule-of P os k (omega arith) (h .1)
-
-is-there : {S : Type 0} (xs : List (Atom S)) (a : ℕ) → a < length xs → isSome (mapped (λ (x : Atom S). x .stamp) (nth xs a)) ≡ true
-is-there [] a l = absurd (omega arith)
-is-there (x ∷ xs) zero l = refl
-is-there (x ∷ xs) (suc a) l = is-there xs a (omega arith)
-
-module _ {S : Type 0} (m : Meaning S) where
-  abbrev count : ℕ
-  count = length (m .atoms)
-
-  -- an atom that has a stamp is below the count
-  below-count : (a : ℕ) → isSome (stampOf m a) ≡ true → a < count
-  below-count a e =
-      elim (cases-lt a count) [
-        | inl below ↦ below
-        | inr past ↦
-            let none : nth (m .atoms) a ≡ None = nth-past (m .atoms) a past in
-            let z : _≡_ {A = ℕ} 0 1 = cc in
-            absurd (omega arith)
-      ]
-
-  literals-below : (fault : ℕ → CheckFault) (ns : List ℕ) → ((i : ℕ) → i < length ns → bindSome (missing m (fault i)) (nth ns i) ≡ None) → All (λ n. n < count) ns
-  literals-below fault [] h = tt
-  literals-below fault (n ∷ ns) h =
-      let here = passes-on (isSome (stampOf m n)) (fault 0) None (h 0 (omega arith)) in
-      (below-count n (here .0), literals-below (λ i. fault (suc i)) ns (λ i l. h (suc i) (omega arith)))
-
-  literal-there : (fault : CheckFault) (ns : List ℕ) (i : ℕ) → All (λ n. n < count) ns → bindSome (missing m fault) (nth ns i) ≡ None
-  literal-there fault [] i h = refl
-  literal-there fault (n ∷ ns) zero h = cond-true (isSome (stampOf m n)) None (Some fault) (is-there (m .atoms) n (h .0))
-  literal-there fault (n ∷ ns) (suc i) h = literal-there fault ns i (h .1)
-
-  -- the fault of a rule that has number k
-  abbrev gapIn : ℕ → Option Rule → Option CheckFault
-  gapIn k o =
-      bindSome
-      (λ r. cond (ltb 6 (length (r .positives)) || ltb 6 (length (r .negatives)))
-      (Some (BodyTooLong k))
-      (cond (isSome (stampOf m (r .head)))
-      (firstBelow (length (r .positives) + length (r .negatives)) (literalGap m k))
-      (Some (HeadMissing k))))
-      o
-
-  literals-sound : (k : ℕ) (r : Rule) → ruleAt m k ≡ Some r → firstBelow (length (r .positives) + length (r .negatives)) (literalGap m k) ≡ None → All (λ n. n < count) (literals r)
-  literals-sound k r is e =
-      literals-below (λ i. LiteralMissing k (i + 1)) (literals r)
-      (λ i l.
-      ap (λ o. bindSome (missing m (LiteralMissing k (i + 1))) (bindSome (λ (s : Rule). nth (literals s) i) o)) (sym is)
-      ∙ first-none (literalGap m k) (length (r .positives) + length (r .negatives)) e i (omega (arith, length-append (r .positives) (r .negatives))))
-
-  sound-in : (k : ℕ) (o : Option Rule) → ruleAt m k ≡ o → gapIn k o ≡ None → Sounds count o
-  sound-in k None is e = tt
-  sound-in k (Some r) is e =
-      let few = passes (ltb 6 (length (r .positives)) || ltb 6 (length (r .negatives))) _ _ e in
-      let each = or-parts (ltb 6 (length (r .positives))) (ltb 6 (length (r .negatives))) (few .0) in
-      let headed = passes-on (isSome (stampOf m (r .head))) _ _ (few .1) in
-      let bodies = all-parts (λ n. n < count) (r .positives) (r .negatives) (literals-sound k r is (headed .1)) in
-      record {
-        declared = below-count (r .head) (headed .0);
-        fewPositives = ltb-false 6 (length (r .positives)) (each .0);
-        fewNegatives = ltb-false 6 (length (r .negatives)) (each .1);
-        positives = bodies .0;
-        negatives = bodies .1;
-      }
-
-  -- each rule of a book without gaps keeps the limits
-  gapless-sound : bookGap m ≡ None → All (Sounds count) (m .rules)
-  gapless-sound e =
-      let rest = passes (ltb 1024 (length (m .atoms)) || ltb 1024 (length (m .rules))) _ _ e .1 in
-      each-rule (Sounds count) (m .rules) (λ k l. sound-in k (ruleAt m k) refl (first-none (ruleGap m) (length (m .rules)) rest k l))
-
-  literals-gapless : (k : ℕ) (r : Rule) → ruleAt m k ≡ Some r → Sound count r → (i : ℕ) → literalGap m k i ≡ None
-  literals-gapless k r is s i =
-      ap (λ o. bindSome (missing m (LiteralMissing k (i + 1))) (bindSome (λ (t : Rule). nth (literals t) i) o)) is
-      ∙ literal-there (LiteralMissing k (i + 1)) (literals r) i (all-append (λ n. n < count) (r .positives) (r .negatives) (s .positives) (s .negatives))
-
-  gap-none : (k : ℕ) (o : Option Rule) → ruleAt m k ≡ o → Sounds count o → gapIn k o ≡ None
-  gap-none k None is s = refl
-  gap-none k (Some r) is s =
-      cond-false _ _ _
-      (or-from (ltb 6 (length (r .positives))) (ltb 6 (length (r .negatives))) (le-ltb 6 (length (r .positives)) (s .fewPositives)) (le-ltb 6 (length (r .negatives)) (s .fewNegatives)))
-      ∙ cond-true _ _ _ (is-there (m .atoms) (r .head) (s .declared))
-      ∙ first-all (literalGap m k) (length (r .positives) + length (r .negatives)) (λ i l. literals-gapless k r is s i)
-
-  -- and a book of such rules has no gaps
-  sound-gapless : length (m .atoms) ≤ 1024 → length (m .rules) ≤ 1024 → All (Sounds count) (m .rules) → bookGap m ≡ None
-  sound-gapless a b s =
-      within (length (m .atoms)) (length (m .rules)) _ _ a b
-      ∙ first-all (ruleGap m) (length (m .rules)) (λ k l. gap-none k (ruleAt m k) refl (rule-of (Sounds count) (m .rules) k l s))
-
-numeral-plain-kept : (limit n : ℕ) (text : List ℕ) → Numeral plain limit n text → Numeral kept limit n text
+pub numeral-plain-kept : (limit n : ℕ) (text : List ℕ) → Numeral plain limit n text → Numeral kept limit n text
 numeral-plain-kept limit n text h = record { digits = h .digits; some = h .some; few = h .few; means = h .means; within = h .within; plainly = tt }
 
 spaced-plain-kept : (limit : ℕ) (ns text : List ℕ) → Spaced plain limit ns text → Spaced kept limit ns text
@@ -302,7 +169,7 @@ spaced-plain-kept limit (n ∷ []) text h = numeral-plain-kept limit n text h
 spaced-plain-kept limit (n ∷ m ∷ ns) text h =
     followed-map _ _ _ _ text (numeral-plain-kept limit n) (λ t. followed-map _ _ _ _ t (λ u e. e) (spaced-plain-kept limit (m ∷ ns))) h
 
-list-plain-kept : (limit : ℕ) (ns text : List ℕ) → Listed plain limit ns text → Listed kept limit ns text
+pub list-plain-kept : (limit : ℕ) (ns text : List ℕ) → Listed plain limit ns text → Listed kept limit ns text
 list-plain-kept limit ns text h = followed-map _ _ _ _ text (λ t e. e) (λ t. followed-map _ _ _ _ t (spaced-plain-kept limit ns) (λ u e. e)) h
 
 pub tick-plain-kept : (t : Tick) (text : List ℕ) → TickSpelt plain t text → TickSpelt kept t text
@@ -324,7 +191,7 @@ numbered-plain-kept k text h = record { number = h .number; spelt = numeral-plai
 declared-plain-kept : (atoms n : ℕ) (text : List ℕ) → Declared plain atoms n text → Declared kept atoms n text
 declared-plain-kept atoms n text h = record { spelt = numeral-plain-kept 4294967295 n text (h .spelt); declared = h .declared }
 
-body-plain-kept : (atoms : ℕ) (ns text : List ℕ) → Body plain atoms ns text → Body kept atoms ns text
+pub body-plain-kept : (atoms : ℕ) (ns text : List ℕ) → Body plain atoms ns text → Body kept atoms ns text
 body-plain-kept atoms ns text h = record { listed = list-plain-kept 4294967295 ns text (h .listed); few = h .few; declared = h .declared }
 
 rule-plain-kept : (atoms k : ℕ) (o : Option Rule) (text : List ℕ) → RuleForm plain atoms k o text → RuleForm kept atoms k o text

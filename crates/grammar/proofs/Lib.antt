@@ -6,4 +6,5 @@ pub mod Canonical
 pub mod Routes
 pub mod Lists
 pub mod Lines
+pub mod Gaps
 pub mod Books
