@@ -66,12 +66,12 @@ abbrev pub spacedText : List ℕ → List ℕ
 spacedText [] = []
 spacedText (n ∷ ns) = decimal n ++ afterFirst ns
 
-up-to-same : (f g : ℕ → List ℕ) → ((i : ℕ) → f i ≡ g i) → (n : ℕ) → upTo f n ≡ upTo g n
+pub up-to-same : (f g : ℕ → List ℕ) → ((i : ℕ) → f i ≡ g i) → (n : ℕ) → upTo f n ≡ upTo g n
 unfolding upTo
 up-to-same f g h zero = refl
 up-to-same f g h (suc n) = ap (λ t. t ++ f n) (up-to-same f g h n) ∙ ap (λ t. upTo g n ++ t) (h n)
 
-up-to-first : (f : ℕ → List ℕ) (n : ℕ) → upTo f (suc n) ≡ f 0 ++ upTo (λ i. f (suc i)) n
+pub up-to-first : (f : ℕ → List ℕ) (n : ℕ) → upTo f (suc n) ≡ f 0 ++ upTo (λ i. f (suc i)) n
 unfolding upTo
 up-to-first f zero = sym (append-nil (f 0))
 up-to-first f (suc n) = ap (λ t. t ++ f (suc n)) (up-to-first f n) ∙ append-assoc (f 0) (upTo (λ i. f (suc i)) n) (f (suc n))

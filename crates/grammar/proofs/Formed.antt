@@ -112,3 +112,70 @@ kind-agrees =
     from : (c : Care) (k : Bool) (piece : List ℕ) → Exactly (cond k inWord outWord) piece → Kinds c k piece
     from c true piece e = inr (unended (Exactly inWord) (true ≡ true) piece refl e)
     from c false piece e = inl (unended (Exactly outWord) (false ≡ false) piece refl e)
+
+-- head, positives and negatives, each after a space
+abbrev pub Parts : Care → ℕ → Rule → List ℕ → Type 0
+Parts c atoms r =
+    Followed (Exactly space) (Followed (Declared c atoms (r .head)) (Followed (Exactly space) (Followed (Body c atoms (r .positives)) (Followed (Exactly space) (Body c atoms (r .negatives))))))
+
+module _ (site : Site) where
+  abbrev Bodied : Care → List ℕ → List ℕ → Type 0
+  Bodied c ns text = Body c (site .atoms) ns text
+
+  abbrev Headed : Care → ℕ → List ℕ → Type 0
+  Headed c n text = Declared c (site .atoms) n text
+
+  abbrev made : ℕ → List ℕ → List ℕ → Rule
+  made h p n = record { head = h; positives = p; negatives = n }
+
+  abbrev Last : ℕ → List ℕ → List ℕ → Care → Rule → List ℕ → Type 0
+  Last h p n c r piece = (r ≡ made h p n) × (piece ≡ [])
+
+  abbrev Negatives : ℕ → List ℕ → Care → Rule → List ℕ → Type 0
+  Negatives h p c r = Followed (Exactly space) (Via Bodied (Last h p) c r)
+
+  abbrev Positives : ℕ → Care → Rule → List ℕ → Type 0
+  Positives h c r = Followed (Exactly space) (Via Bodied (Negatives h) c r)
+
+  negatives-agree : (h : ℕ) (p : List ℕ) → Agrees (λ text at. andThen (passAt 32 text at) (λ m. andThen (bodyAt text site (length p) m) (λ n. Ok (made h p (n .0), n .1)))) (Negatives h p) Any
+  negatives-agree h p =
+      byte-then 32 (λ text m. andThen (bodyAt text site (length p) m) (λ n. Ok (made h p (n .0), n .1))) (Via Bodied (Last h p)) Any
+      (agrees-then (λ text at. bodyAt text site (length p) at) (λ at n text m. Ok (made h p n, m)) Bodied (Last h p) Any Any (body-agrees site (length p)) (λ at n. agrees-done (made h p n) Any) (λ c n r piece rest g s. tt))
+
+  positives-agree : (h : ℕ) → Agrees (λ text at. andThen (passAt 32 text at) (λ b. andThen (bodyAt text site 0 b) (λ p. andThen (passAt 32 text (p .1)) (λ m. andThen (bodyAt text site (length (p .0)) m) (λ n. Ok (made h (p .0) (n .0), n .1)))))) (Positives h) Any
+  positives-agree h =
+      byte-then 32 (λ text b. andThen (bodyAt text site 0 b) (λ p. andThen (passAt 32 text (p .1)) (λ m. andThen (bodyAt text site (length (p .0)) m) (λ n. Ok (made h (p .0) (n .0), n .1))))) (Via Bodied (Negatives h)) Any
+      (agrees-then (λ text at. bodyAt text site 0 at) (λ at p text m. andThen (passAt 32 text m) (λ k. andThen (bodyAt text site (length p) k) (λ n. Ok (made h p (n .0), n .1)))) Bodied (Negatives h) Any Any (body-agrees site 0) (λ at p. negatives-agree h p) (λ c p r piece rest g s. tt))
+
+  parts-to : (c : Care) (r : Rule) (text : List ℕ) → Followed (Exactly space) (Via Headed Positives c r) text → Parts c (site .atoms) r text
+  parts-to c r text f =
+      let h = f .second in
+      let g = h .parts .second in
+      let p = g .second in
+      let k = p .parts .second in
+      let n = k .second in
+      let body = ended (Bodied c (n .value)) (r ≡ made (h .value) (p .value) (n .value)) (k .back) (n .parts) in
+      let six : Followed (Exactly space) (Bodied c (n .value)) (p .parts .back) = record { front = k .front; back = k .back; whole = k .whole; first = k .first; second = body } in
+      let five : Followed (Bodied c (p .value)) (Followed (Exactly space) (Bodied c (n .value))) (g .back) = record { front = p .parts .front; back = p .parts .back; whole = p .parts .whole; first = p .parts .first; second = six } in
+      let four : Followed (Exactly space) (Followed (Bodied c (p .value)) (Followed (Exactly space) (Bodied c (n .value)))) (h .parts .back) = record { front = g .front; back = g .back; whole = g .whole; first = g .first; second = five } in
+      subst (λ x. Parts c (site .atoms) x text) (sym (n .parts .second .0))
+      (record { front = f .front; back = f .back; whole = f .whole; first = f .first; second = record { front = h .parts .front; back = h .parts .back; whole = h .parts .whole; first = h .parts .first; second = four } })
+
+  parts-from : (c : Care) (r : Rule) (text : List ℕ) → Parts c (site .atoms) r text → Followed (Exactly space) (Via Headed Positives c r) text
+  parts-from c r text f =
+      let g = f .second in
+      let k = g .second in
+      let p = k .second in
+      let j = p .second in
+      let negatives : Via Bodied (Last (r .head) (r .positives)) c r (j .back) = record { value = r .negatives; parts = unended (Bodied c (r .negatives)) (r ≡ r) (j .back) refl (j .second) } in
+      let positives : Via Bodied (Negatives (r .head)) c r (k .back) = record { value = r .positives; parts = record { front = p .front; back = p .back; whole = p .whole; first = p .first; second = record { front = j .front; back = j .back; whole = j .whole; first = j .first; second = negatives } } } in
+      let head : Via Headed Positives c r (f .back) = record { value = r .head; parts = record { front = g .front; back = g .back; whole = g .whole; first = g .first; second = record { front = k .front; back = k .back; whole = k .whole; first = k .first; second = positives } } } in
+      record { front = f .front; back = f .back; whole = f .whole; first = f .first; second = head }
+
+  pub rule-agrees : Agrees (λ text at. ruleAt text site at) (λ c r text. Parts c (site .atoms) r text) Any
+  unfolding ruleAt
+  rule-agrees =
+      agrees-as _ _ _ Any parts-to parts-from
+      (byte-then 32 _ (Via Headed Positives) Any
+      (agrees-then (λ text at. headAt text site at) (λ at h text m. andThen (passAt 32 text m) (λ b. andThen (bodyAt text site 0 b) (λ p. andThen (passAt 32 text (p .1)) (λ k. andThen (bodyAt text site (length (p .0)) k) (λ n. Ok (made h (p .0) (n .0), n .1)))))) Headed Positives NoDigit Any (head-agrees site) (λ at h. positives-agree h)
+      (λ c h r piece rest g s. ap (λ t. digitOf (nth (t ++ rest) 0)) (g .whole ∙ ap (λ t. t ++ g .back) (g .first)))))

@@ -9,3 +9,5 @@ pub mod Lines
 pub mod Turning
 pub mod Bodies
 pub mod Formed
+pub mod Gaps
+pub mod Books
