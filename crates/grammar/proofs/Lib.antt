@@ -11,3 +11,4 @@ pub mod Bodies
 pub mod Formed
 pub mod Gaps
 pub mod Books
+pub mod Forms
