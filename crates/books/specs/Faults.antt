@@ -6,7 +6,7 @@ use Rattle.books.specs.declared.fault.Values.{Values}
 use Rattle.books.specs.declared.fault.Values.the-variants.{One, RuleLiteral}
 use Rattle.books.specs.declared.fault.Refusal.{Refusal}
 use Rattle.books.specs.declared.fault.ReadFault.{ReadFault}
-use Rattle.books.specs.declared.fault.ReadFault.the-variants.{Byte, Number, TooMany, AtomMissing}
+use Rattle.books.specs.declared.fault.ReadFault.the-variants.{Byte, NotRising, Number, TooMany, AtomMissing}
 use Rattle.books.specs.declared.fault.CheckFault.{CheckFault}
 use Rattle.books.specs.declared.fault.CheckFault.the-variants.{TooLarge, BodyTooLong, HeadMissing, HeadIsReading, LiteralMissing, PositiveOutOfOrder, NegativeOutOfOrder, SlotMissing, RuleMissing, SheetTooShort}
 use Rattle.books.specs.declared.fault.Fault.{Fault}
@@ -34,6 +34,7 @@ readingAt number values = record { layer = Reading; number = number; values = va
 
 abbrev pub readRefusal : ReadFault → Refusal
 readRefusal (Byte place) = readingAt 1 (One place)
+readRefusal (NotRising place) = readingAt 1 (One place)
 readRefusal (Number place) = readingAt 2 (One place)
 readRefusal (TooMany place) = readingAt 3 (One place)
 readRefusal (AtomMissing rule literal) = readingAt 4 (RuleLiteral rule literal)

@@ -30,6 +30,8 @@ pub struct Refusal {
 #[derive(Clone, Copy, PartialEq, Eq, Debug)]
 pub enum ReadFault {
     Byte { place: usize },
+    // An aisle that does not rise: numbered as a wrong byte, yet a text may go on with its digit, as (5 3 goes on to (5 30).
+    NotRising { place: usize },
     Number { place: usize },
     TooMany { place: usize },
     AtomMissing { rule: usize, literal: usize },
@@ -66,6 +68,7 @@ impl Fault {
             Fault::Reading(fault) => {
                 let (number, values) = match *fault {
                     ReadFault::Byte { place } => (1, Values::One(place)),
+                    ReadFault::NotRising { place } => (1, Values::One(place)),
                     ReadFault::Number { place } => (2, Values::One(place)),
                     ReadFault::TooMany { place } => (3, Values::One(place)),
                     ReadFault::AtomMissing { rule, literal } => (

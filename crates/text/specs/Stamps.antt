@@ -6,11 +6,13 @@ use lib.Bits.{bitOr}
 use lib.Dec.{ltb}
 use Rattle.std.specs.declared.result.Result.{Result}
 use Rattle.std.specs.declared.result.Result.the-variants.{Ok, Err}
+use Rattle.books.specs.declared.fault.ReadFault.the-variants.{NotRising}
 use Rattle.books.specs.declared.fault.Fault.{Fault}
+use Rattle.books.specs.declared.fault.Fault.the-variants.{Reading}
 use Rattle.stamps.specs.declared.tick.Tick.{Tick}
 use Rattle.stamps.specs.declared.route.Route.{Route}
 use Rattle.stamps.specs.declared.then.Then.{Then}
-use Rattle.text.specs.Bytes.{andThen, wrongAt, passAt}
+use Rattle.text.specs.Bytes.{andThen, passAt}
 use Rattle.text.specs.Turns.{tries}
 use Rattle.text.specs.Numbers.{numberAt}
 use Rattle.text.specs.Lists.{openAt, onwardAt}
@@ -35,7 +37,7 @@ abbrev pub oneAisle : List ℕ → Aisles → Result Aisles Fault
 oneAisle text s =
     cond (s .more)
     (andThen (numberAt text (s .next) 63)
-    (λ p. cond (ltb (p .0) (s .least)) (wrongAt (s .next))
+    (λ p. cond (ltb (p .0) (s .least)) (Err (Reading (NotRising (s .next))))
     (andThen (onwardAt text (p .1))
     (λ q. Ok (record { aisles = bitOr (s .aisles) (2 ^ p .0); least = p .0 + 1; more = q .0; next = q .1 })))))
     (Ok s)

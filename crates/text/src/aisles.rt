@@ -4,12 +4,12 @@ ghost use Prim.Native.Nat.{_+_, _-_, _^_, _<_, _≤_};
 ghost use Rattle.text.specs.Spelt.{upTo, aisleText};
 ghost use Rattle.text.specs.Written.{Wrote};
 ghost use Rattle.text.specs.Stamps.{oneAisle, aislesAt};
-use crate::bytes::wrong;
 use crate::lists::list_onward;
 use crate::numbers::number;
 use crate::sheet::put;
 use crate::sheet::put_number;
 use books::fault::Fault;
+use books::fault::ReadFault;
 
 // The highest aisle of a route.
 const MAX_AISLE: u64 = 63;
@@ -35,7 +35,7 @@ fn one_aisle(text: &[u8], so_far: Aisles) -> Result<Aisles, Fault>
     }
     let (aisle, after) = number(text, so_far.next, MAX_AISLE)?;
     if aisle < so_far.least {
-        return wrong(so_far.next);
+        return Err(Fault::Reading(ReadFault::NotRising { place: so_far.next }));
     }
     let (more, next) = list_onward(text, after)?;
     Ok(Aisles {

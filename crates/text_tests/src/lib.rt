@@ -1,6 +1,8 @@
 // Tests of the bracket text, which are many.
 #[cfg(test)]
 mod back;
+#[cfg(test)]
+mod examples;
 mod seven;
 
 use books::fault::Fault;
@@ -139,6 +141,18 @@ fn then_refusal(text: &[u8]) -> Option<Refusal> {
     )
 }
 
+// The fault of a text with route stamps, which says more than its refusal does.
+fn route_fault(text: &[u8]) -> Option<Fault> {
+    match read::<Route>(
+        text,
+        &mut [mark_row::<RouteMark>(); 4],
+        &mut [mark_rule(); 3],
+    ) {
+        Ok(_) => None,
+        Err(fault) => Some(fault),
+    }
+}
+
 // The row is a rule with this head and so many positives and negatives.
 fn is_rule(row: &Option<RuleRow>, head: usize, positives: usize, negatives: usize) -> bool {
     match row {
@@ -222,6 +236,8 @@ mod tests {
     use crate::seven::Seven;
     use crate::seven::SevenBook;
     use books::fault::FaultDebug;
+    use books::fault::FaultPartialEq;
+    use books::fault::ReadFault;
     use books::fault::ValuesPartialEq;
     use std::test::*;
 
@@ -303,6 +319,15 @@ mod tests {
         check(refused_at(route_refusal(b"(order route)\n(atom 0 in (5 )\n"), 1, 28))?;
         check(refused_at(route_refusal(b"(order route)\n(atom 0 in ( 5))\n"), 1, 26))?;
         check(refused_at(route_refusal(b"(order route)\n(atom 0 in 5)\n"), 1, 25))
+    }
+
+    #[test]
+    fn an_aisle_that_does_not_rise_is_no_wrong_byte() -> Result<(), Fail> {
+        let not_rising = Some(Fault::Reading(ReadFault::NotRising { place: 28 }));
+        check(route_fault(b"(order route)\n(atom 0 in (5 5))\n") == not_rising)?;
+        check(route_fault(b"(order route)\n(atom 0 in (5 3))\n") == not_rising)?;
+        let byte = Some(Fault::Reading(ReadFault::Byte { place: 28 }));
+        check(route_fault(b"(order route)\n(atom 0 in (5 )\n") == byte)
     }
 
     #[test]
@@ -517,20 +542,6 @@ mod tests {
                 fault.refusal().number == 3 && fault.refusal().values == Values::One(end),
             ),
         }
-    }
-
-    #[test]
-    fn a_closed_aisle_comes_back() -> Result<(), Fail> {
-        let book =
-            b"(order tick)\n(atom 0 in 1)\n(atom 1 in 1)\n(atom 2 out 2)\n(atom 3 out 3)\n(atom 4 out 4)\n(rule 0 2 (0) ())\n(rule 1 3 (1) (2))\n(rule 2 4 () (3))\n(end)\n";
-        check(replies(book, book))
-    }
-
-    #[test]
-    fn a_reroute_comes_back() -> Result<(), Fail> {
-        let book =
-            b"(order route)\n(atom 0 in ())\n(atom 1 in (3))\n(atom 2 out (3 4))\n(atom 3 out (3 4))\n(atom 4 out (3 4 5))\n(rule 0 2 (0 3) ())\n(rule 1 3 (0 2) ())\n(rule 2 2 (0) (1))\n(rule 3 4 (2 3) (1))\n(end)\n";
-        check(replies(book, book))
     }
 
     #[test]
