@@ -15,7 +15,7 @@ use Rattle.std.specs.declared.option.Option.{Option}
 use Rattle.std.specs.declared.option.Option.the-variants.{Some, None}
 use Rattle.std.specs.declared.result.Result.{Result}
 use Rattle.std.specs.declared.result.Result.the-variants.{Ok, Err}
-use Rattle.books.specs.declared.fault.ReadFault.the-variants.{Byte, Number, TooMany, AtomMissing}
+use Rattle.books.specs.declared.fault.ReadFault.the-variants.{Byte, NotRising, Number, TooMany, AtomMissing}
 use Rattle.books.specs.declared.fault.Fault.{Fault}
 use Rattle.books.specs.declared.fault.Fault.the-variants.{Reading, Checking}
 use Rattle.text.specs.Bytes.{andThen, passAt, passIf, wrongAt}
@@ -26,6 +26,7 @@ use Rattle.grammar.proofs.Places.{nth-front, drop-step, drop-past, between-joi
 
 pub at-byte-map : (e : Fault) {P Q : ℕ → Type 0} → ((k : ℕ) → P k → Q k) → AtByte e P → AtByte e Q
 at-byte-map (Reading (Byte k)) f h = f k h
+at-byte-map (Reading (NotRising k)) f h = tt
 at-byte-map (Reading (Number k)) f h = tt
 at-byte-map (Reading (TooMany k)) f h = tt
 at-byte-map (Reading (AtomMissing r l)) f h = tt
@@ -34,6 +35,7 @@ at-byte-map (Checking x) f h = tt
 -- two facts of the same place
 pub at-byte-both : (e : Fault) (P Q : ℕ → Type 0) → AtByte e P → AtByte e Q → AtByte e (λ k. P k × Q k)
 at-byte-both (Reading (Byte k)) P Q a b = (a, b)
+at-byte-both (Reading (NotRising k)) P Q a b = tt
 at-byte-both (Reading (Number k)) P Q a b = tt
 at-byte-both (Reading (TooMany k)) P Q a b = tt
 at-byte-both (Reading (AtomMissing r l)) P Q a b = tt

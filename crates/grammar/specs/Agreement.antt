@@ -8,7 +8,7 @@ use Rattle.std.specs.Finite.{nth}
 use Rattle.std.specs.declared.result.Result.{Result}
 use Rattle.std.specs.declared.result.Result.the-variants.{Ok, Err}
 use Rattle.books.specs.declared.fault.ReadFault.{ReadFault}
-use Rattle.books.specs.declared.fault.ReadFault.the-variants.{Byte, Number, TooMany, AtomMissing}
+use Rattle.books.specs.declared.fault.ReadFault.the-variants.{Byte, NotRising, Number, TooMany, AtomMissing}
 use Rattle.books.specs.declared.fault.CheckFault.{CheckFault}
 use Rattle.books.specs.declared.fault.Fault.{Fault}
 use Rattle.books.specs.declared.fault.Fault.the-variants.{Reading, Checking}
@@ -17,6 +17,7 @@ use Rattle.grammar.specs.Pieces.{Care, shape, kept, plain}
 -- P of the place, where the fault is a byte that is not allowed
 abbrev pub AtByte : Fault → (ℕ → Type 0) → Type 0
 AtByte (Reading (Byte k)) P = P k
+AtByte (Reading (NotRising k)) P = Unit {0}
 AtByte (Reading (Number k)) P = Unit {0}
 AtByte (Reading (TooMany k)) P = Unit {0}
 AtByte (Reading (AtomMissing r l)) P = Unit {0}
