@@ -77,7 +77,7 @@ flip : {X : Type 0} (b : Bool) (x y : X) → cond (not b) x y ≡ cond b y x
 flip true x y = refl
 flip false x y = refl
 
-kept-map : {P Q : Type 0} (c : Care) → (P → Q) → Kept c P → Kept c Q
+pub kept-map : {P Q : Type 0} (c : Care) → (P → Q) → Kept c P → Kept c Q
 kept-map shape f h = tt
 kept-map kept f h = f h
 kept-map plain f h = f h

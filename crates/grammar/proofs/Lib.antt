@@ -6,3 +6,4 @@ pub mod Canonical
 pub mod Routes
 pub mod Lists
 pub mod Lines
+pub mod Rests
