@@ -7,3 +7,4 @@ pub mod Routes
 pub mod Lists
 pub mod Lines
 pub mod Rests
+pub mod Onward
