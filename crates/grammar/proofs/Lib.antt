@@ -8,3 +8,4 @@ pub mod Lists
 pub mod Lines
 pub mod Rests
 pub mod Onward
+pub mod Turned
