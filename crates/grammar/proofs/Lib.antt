@@ -9,3 +9,4 @@ pub mod Lines
 pub mod Rests
 pub mod Onward
 pub mod Turned
+pub mod Whole

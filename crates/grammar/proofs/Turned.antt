@@ -101,7 +101,7 @@ abbrev Inside : {X : Type 0} → List ℕ → ℕ → Result (X × ℕ) Fault �
 Inside text at (Ok p) = (at < p .1) × (p .1 ≤ length text)
 Inside text at (Err e) = Unit {0}
 
-between-within : (text : List ℕ) (at next : ℕ) (piece : List ℕ) → Between text at next piece → at ≤ length text → next ≤ length text
+pub between-within : (text : List ℕ) (at next : ℕ) (piece : List ℕ) → Between text at next piece → at ≤ length text → next ≤ length text
 between-within text at next piece b l =
     omega (arith, ap length (b .stands), length-append piece (drop next text), length-drop at text, length-drop next text, b .place)
 
@@ -183,7 +183,7 @@ module _ {S : Type 0} (stampAt : List ℕ → ℕ → Result (S × ℕ) Fault) (
   Same fuel n = (stage : Stage) → Going stage → (at a r : ℕ) (xs : List (Atom S)) (os : List (Option Rule)) → at ≤ length text → length text ≤ n + at → length text < fuel + at → andThen (tries form (progress stage at a r xs os) n) finish ≡ andThen (lines stampAt word room fuel stage a r text at) (λ p. closed xs os (p .0) (p .1) (nth text (p .1)))
 
   module _ (fuel n : ℕ) (known : Same fuel n) (stage : Stage) (at a r : ℕ) (xs : List (Atom S)) (os : List (Option Rule)) (k : length text ≤ suc n + at) (m : length text < suc fuel + at) where
-    -- the others turns after the form that was read
+    -- the turns after the form that was read
     line-same : (line : Line S) (next : ℕ) → at < next → next ≤ length text → andThen (tries form (after (progress stage at a r xs os) (line, next)) n) finish ≡ andThen (onward (lines stampAt word room fuel) a r line text next) (λ p. closed xs os (p .0) (p .1) (nth text (p .1)))
     line-same orderLine next l i = known Atoms tt next a r xs os i (omega arith) (omega arith)
     line-same (atomLine x) next l i =
