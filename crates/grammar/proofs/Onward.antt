@@ -1,5 +1,5 @@
 -- Reading on from a stage to the end form, and its agreement with what remains of the text.
-use Prim.Native.Nat.{ℕ, zero, suc, _+_, _<_, _≤_}
+use Prim.Native.Nat.{ℕ, zero, suc, _+_, _<_}
 use mathlib.Core.List.{List, [], _∷_, _++_}
 use mathlib.Core.Path.{_≡_, refl, sym, ap, _∙_, subst}
 use native.Mathlib.Omega.{arith}
@@ -14,7 +14,6 @@ use Rattle.books.specs.declared.fault.Fault.{Fault}
 use Rattle.books.specs.declared.fault.Fault.the-variants.{Reading}
 use Rattle.text.specs.Bytes.{andThen}
 use Rattle.text.specs.Forms.{Line, orderLine, atomLine, ruleLine, endLine, formAt}
-use Rattle.text.specs.declared.reader.Reader.{Reader}
 use Rattle.text.specs.declared.reader.Room.{Room}
 use Rattle.text.specs.declared.reader.Stage.{Stage}
 use Rattle.text.specs.declared.reader.Stage.the-variants.{Start, Atoms, Rules, End}
@@ -76,20 +75,20 @@ module _ {S : Type 0} (word : List ℕ) (spells : Care → S → List ℕ → Ty
   abbrev rest : Stage → ℕ → ℕ → Care → Meaning S → List ℕ → Type 0
   rest = Rest word spells room
 
+  rule-rest : (o : Option Rule) (a r : ℕ) (c : Care) (xs : List (Atom S)) (os : List (Option Rule)) (piece : List ℕ) → Followed (FormAt word spells room Rules a r c (ruleLine o)) (rest Rules a (r + 1) c (record { atoms = xs; rules = os })) piece → rest Rules a r c (record { atoms = xs; rules = o ∷ os }) piece
+  rule-rest o a r c [] os piece f = f
+  rule-rest o a r c (x ∷ xs) os piece f = absurd (f .second)
+
+  late-atoms : (a r : ℕ) (c : Care) (xs : List (Atom S)) (os : List (Option Rule)) (piece : List ℕ) → rest Rules a r c (record { atoms = xs; rules = os }) piece → rest Atoms a r c (record { atoms = xs; rules = os }) piece
+  late-atoms a r c [] os piece h = h
+  late-atoms a r c (x ∷ xs) os piece h = absurd h
+
+  ended : (a r : ℕ) (c : Care) (stage : Stage) (m : Meaning S) (front back piece : List ℕ) → piece ≡ front ++ back → rest stage a r c bare front → m ≡ bare → back ≡ [] → rest stage a r c m piece
+  ended a r c stage m front back piece e h k n =
+      let same : front ≡ piece = sym (e ∙ ap (λ t. front ++ t) n ∙ append-nil front) in
+      subst (λ b. rest stage a r c b piece) (sym k) (subst (rest stage a r c bare) same h)
+
   module _ (next : Stage → ℕ → ℕ → Care → Meaning S → List ℕ → Type 0) (known : (stage : Stage) (a r : ℕ) (c : Care) (m : Meaning S) (piece : List ℕ) → next stage a r c m piece → rest stage a r c m piece) where
-    rule-rest : (o : Option Rule) (a r : ℕ) (c : Care) (xs : List (Atom S)) (os : List (Option Rule)) (piece : List ℕ) → Followed (FormAt word spells room Rules a r c (ruleLine o)) (rest Rules a (r + 1) c (record { atoms = xs; rules = os })) piece → rest Rules a r c (record { atoms = xs; rules = o ∷ os }) piece
-    rule-rest o a r c [] os piece f = f
-    rule-rest o a r c (x ∷ xs) os piece f = absurd (f .second)
-
-    late-atoms : (a r : ℕ) (c : Care) (xs : List (Atom S)) (os : List (Option Rule)) (piece : List ℕ) → rest Rules a r c (record { atoms = xs; rules = os }) piece → rest Atoms a r c (record { atoms = xs; rules = os }) piece
-    late-atoms a r c [] os piece h = h
-    late-atoms a r c (x ∷ xs) os piece h = absurd h
-
-    ended : (a r : ℕ) (c : Care) (stage : Stage) (m : Meaning S) (front back piece : List ℕ) → piece ≡ front ++ back → rest stage a r c bare front → m ≡ bare → back ≡ [] → rest stage a r c m piece
-    ended a r c stage m front back piece e h k n =
-        let same : front ≡ piece = sym (e ∙ ap (λ t. front ++ t) n ∙ append-nil front) in
-        subst (λ b. rest stage a r c b piece) (sym k) (subst (rest stage a r c bare) same h)
-
     -- a form, and what remains after it
     one-rest : (stage : Stage) (line : Line S) (a r : ℕ) (c : Care) (m : Meaning S) (front back piece : List ℕ) → piece ≡ front ++ back → FormAt word spells room stage a r c line front → Onward next a r line c m back → rest stage a r c m piece
     one-rest Start orderLine a r c m front back piece e f h = record { front = front; back = back; whole = e; first = f; second = known Atoms a r c m back h }
@@ -123,13 +122,9 @@ module _ {S : Type 0} (word : List ℕ) (spells : Care → S → List ℕ → Ty
   via : (n : ℕ) (stage : Stage) (a r : ℕ) (c : Care) (m : Meaning S) (line : Line S) (piece : List ℕ) → Followed (FormAt word spells room stage a r c line) (Onward (Lines n) a r line c m) piece → Lines (suc n) stage a r c m piece
   via n stage a r c m line piece f = record { value = line; parts = f }
 
-  -- the end form
-  end-lines : (n : ℕ) (a r : ℕ) (c : Care) (piece : List ℕ) → rest Rules a r c bare piece → Followed (FormAt word spells room Rules a r c endLine) (Onward (Lines n) a r endLine c bare) piece
-  end-lines n a r c piece h = record { front = piece; back = []; whole = sym (append-nil piece); first = h; second = (refl, refl) }
-
   late-lines : (n : ℕ) (os : List (Option Rule)) (a r : ℕ) (c : Care) (piece : List ℕ) → length os < n → rest Rules a r c (record { atoms = []; rules = os }) piece → Lines n Rules a r c (record { atoms = []; rules = os }) piece
   late-lines zero os a r c piece l h = absurd (omega arith)
-  late-lines (suc n) [] a r c piece l h = via n Rules a r c bare endLine piece (end-lines n a r c piece h)
+  late-lines (suc n) [] a r c piece l h = via n Rules a r c bare endLine piece (record { front = piece; back = []; whole = sym (append-nil piece); first = h; second = (refl, refl) })
   late-lines (suc n) (o ∷ os) a r c piece l h =
       via n Rules a r c (record { atoms = []; rules = o ∷ os }) (ruleLine o) piece
       (record { front = h .front; back = h .back; whole = h .whole; first = h .first; second = (record { atoms = []; rules = os }, refl, late-lines n os a (r + 1) c (h .back) (omega arith) (h .second)) })

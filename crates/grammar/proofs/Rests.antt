@@ -1,5 +1,5 @@
 -- What remains of a text from a stage on, one form after another, and the text as a whole.
-use Prim.Native.Nat.{ℕ, zero, suc, _+_, _<_, _≤_}
+use Prim.Native.Nat.{ℕ, _+_, _≤_}
 use mathlib.Core.List.{List, [], _∷_, _++_}
 use mathlib.Core.Path.{_≡_, refl, sym, ap, _∙_, subst}
 use native.Mathlib.Omega.{arith}
@@ -12,7 +12,7 @@ use Rattle.text.specs.Spelt.{endText}
 use Rattle.text.specs.declared.reader.Room.{Room}
 use Rattle.text.specs.declared.reader.Stage.{Stage}
 use Rattle.text.specs.declared.reader.Stage.the-variants.{Start, Atoms, Rules, End}
-use Rattle.grammar.specs.Pieces.{Care, shape, kept, plain, Kept, Exactly, Followed}
+use Rattle.grammar.specs.Pieces.{Care, shape, kept, Kept, Exactly, Followed}
 use Rattle.grammar.specs.Grammar.{AtomForm, AtomForms, RuleForm, RuleForms, OrderForm, Spells}
 use Rattle.grammar.proofs.Choosing.{kept-map}
 use Rattle.grammar.proofs.Lines.{AtomNext, FormAt}

@@ -1,12 +1,11 @@
 -- The turns of the reader of a whole text are its forms, read on from the start.
-use Prim.Native.Nat.{ℕ, zero, suc, _+_, _-_, _<_, _≤_, max}
-use mathlib.Core.Bool.{Bool, true, false, cond}
+use Prim.Native.Nat.{ℕ, zero, suc, _+_, _<_, _≤_}
+use mathlib.Core.Bool.{cond}
 use mathlib.Core.List.{List, [], _∷_, _++_}
-use mathlib.Core.Logic.{_⊎_, inl, inr}
-use mathlib.Core.Path.{_≡_, refl, sym, ap, _∙_, subst}
+use mathlib.Core.Logic.{inl, inr}
+use mathlib.Core.Path.{_≡_, refl, sym, ap, _∙_}
 use native.Mathlib.Omega.{arith}
-use lib.Dec.{eqb}
-use lib.ListN.{length, drop, getD}
+use lib.ListN.{length, drop}
 use Rattle.std.proofs.shelf.Lists.{append-assoc, append-nil, length-append, length-drop, drop-all}
 use Rattle.std.proofs.shelf.Maps.{nth-getD, nth-past}
 use Rattle.std.proofs.shelf.Tests.{cases-lt, eq-eqb, ne-eqb}
@@ -19,8 +18,8 @@ use Rattle.books.specs.Meaning.{Rule, Atom, Meaning}
 use Rattle.books.specs.declared.fault.Fault.{Fault}
 use Rattle.text.specs.Bytes.{andThen, wrongAt}
 use Rattle.text.specs.Forms.{Line, orderLine, atomLine, ruleLine, endLine, formAt, formIn, refusedAt}
-use Rattle.text.specs.Kinds.{kindOf, orderOpening, atomOpening, ruleOpening, voidOpening, endOpening}
-use Rattle.text.specs.Reads.{Progress, after, isEnd, finished, oneForm, progressAt, bookAt}
+use Rattle.text.specs.Kinds.{orderOpening, atomOpening, ruleOpening, voidOpening, endOpening, kindOf}
+use Rattle.text.specs.Reads.{Progress, after, isEnd, oneForm, progressAt, bookAt}
 use Rattle.text.specs.Turns.{turns, tries}
 use Rattle.text.specs.Words.{agreesTo, isByte}
 use Rattle.text.specs.declared.reader.Reader.{Reader}
@@ -59,17 +58,16 @@ tries-stay f s zero e = refl
 tries-stay f s (suc n) e = ap (λ r. andThen r f) (tries-stay f s n e) ∙ e
 
 -- at the end of a text no word begins
-word-ends : (b : ℕ) (word text : List ℕ) (at : ℕ) → length text ≤ at → agreesTo (b ∷ word) text at ≡ at
+word-ends : (word text : List ℕ) (at : ℕ) → length text ≤ at → agreesTo word text at ≡ at
 unfolding agreesTo
-word-ends b word text at l = ap (λ o. cond (isByte b o) (agreesTo word text (at + 1)) at) (nth-past text at l)
+word-ends [] text at l = refl
+word-ends (b ∷ word) text at l = ap (λ o. cond (isByte b o) (agreesTo word text (at + 1)) at) (nth-past text at l)
 
 refused-there : (text : List ℕ) (stage : Stage) (at : ℕ) → length text ≤ at → refusedAt text stage at ≡ at
 unfolding refusedAt
-refused-there text Start at l = word-ends _ _ text at l
-refused-there text Atoms at l =
-    omega (arith, word-ends 40 (97 ∷ 116 ∷ 111 ∷ 109 ∷ 32 ∷ []) text at l, word-ends 40 (114 ∷ 117 ∷ 108 ∷ 101 ∷ 32 ∷ []) text at l, word-ends 40 (118 ∷ 111 ∷ 105 ∷ 100 ∷ 32 ∷ []) text at l, word-ends 40 (101 ∷ 110 ∷ 100 ∷ 41 ∷ []) text at l)
-refused-there text Rules at l =
-    omega (arith, word-ends 40 (114 ∷ 117 ∷ 108 ∷ 101 ∷ 32 ∷ []) text at l, word-ends 40 (118 ∷ 111 ∷ 105 ∷ 100 ∷ 32 ∷ []) text at l, word-ends 40 (101 ∷ 110 ∷ 100 ∷ 41 ∷ []) text at l)
+refused-there text Start at l = word-ends orderOpening text at l
+refused-there text Atoms at l = omega (arith, word-ends atomOpening text at l, word-ends ruleOpening text at l, word-ends voidOpening text at l, word-ends endOpening text at l)
+refused-there text Rules at l = omega (arith, word-ends ruleOpening text at l, word-ends voidOpening text at l, word-ends endOpening text at l)
 refused-there text End at l = refl
 
 -- a piece that begins with a word has a byte

@@ -15,10 +15,9 @@ use Rattle.books.specs.Meaning.{Meaning}
 use Rattle.books.specs.declared.fault.ReadFault.the-variants.{Byte}
 use Rattle.books.specs.declared.fault.Fault.{Fault}
 use Rattle.books.specs.declared.fault.Fault.the-variants.{Reading}
-use Rattle.text.specs.Bytes.{andThen, wrongAt}
+use Rattle.text.specs.Bytes.{andThen}
 use Rattle.text.specs.Forms.{formAt}
 use Rattle.text.specs.Reads.{bookAt}
-use Rattle.text.specs.declared.reader.Reader.{Reader}
 use Rattle.text.specs.declared.reader.Room.{Room}
 use Rattle.text.specs.declared.reader.Stage.{Stage}
 use Rattle.text.specs.declared.reader.Stage.the-variants.{Start}
@@ -135,9 +134,6 @@ module _ {S : Type 0} (stampAt : List ℕ → ℕ → Result (S × ℕ) Fault) (
 
   abbrev book : List ℕ → Result (Meaning S) Fault
   book text = bookAt stampAt word text room
-
-  abbrev Roomy : Meaning S → Type 0
-  Roomy m = (length (m .atoms) ≤ room .atoms) × (length (m .rules) ≤ room .rules)
 
   whole-agrees : (n : ℕ) → Agrees (whole stampAt word room n) (Forms n) Nothing
   whole-agrees n =
