@@ -12,3 +12,7 @@ pub mod Formed
 pub mod Gaps
 pub mod Books
 pub mod Forms
+pub mod Rests
+pub mod Onward
+pub mod Turned
+pub mod Whole
