@@ -16,3 +16,4 @@ pub mod Rests
 pub mod Onward
 pub mod Turned
 pub mod Whole
+pub mod Stamped

@@ -1,5 +1,5 @@
 -- Numbers are read as the grammar has them.
-use Prim.Native.Nat.{ℕ, zero, suc, _+_, _-_, _*_, _<_, _≤_}
+use Prim.Native.Nat.{ℕ, zero, suc, _+_, _-_, _*_, _^_, _<_, _≤_}
 use mathlib.Core.Bool.{Bool, true, false, cond, _&&_}
 use mathlib.Core.List.{List, [], _∷_, _++_}
 use mathlib.Core.Logic.{inl, inr}
@@ -9,7 +9,7 @@ use lib.Dec.{eqb, ltb, leb}
 use lib.ListN.{length, drop}
 use Rattle.std.proofs.shelf.Digits.{value-push, digits-push}
 use Rattle.std.proofs.shelf.Lists.{append-nil, length-push}
-use Rattle.std.proofs.shelf.Numerals.{digit-from-value}
+use Rattle.std.proofs.shelf.Numerals.{digit-from-value, numerals-by-value, tells-digits, value-short}
 use Rattle.std.proofs.shelf.Tests.{le-leb, lt-ltb, le-ltb, eqb-true, eqb-false, ltb-true, ltb-false, leb-true, and-parts, cases-bool, cond-true, cond-false, cases-lt}
 use Rattle.std.specs.Finite.{nth}
 use Rattle.std.specs.Options.{isSome}
@@ -22,7 +22,7 @@ use Rattle.std.specs.declared.result.Result.the-variants.{Ok, Err}
 use Rattle.books.specs.declared.fault.ReadFault.the-variants.{Number}
 use Rattle.books.specs.declared.fault.Fault.{Fault}
 use Rattle.books.specs.declared.fault.Fault.the-variants.{Reading}
-use Rattle.text.specs.Bytes.{wrongAt}
+use Rattle.text.specs.Bytes.{andThen, wrongAt}
 use Rattle.text.specs.Numbers.{digitOf, digitAt, grown, oneMore, digitsFrom, judged, numberAt}
 use Rattle.text.specs.Turns.{turns}
 use Rattle.grammar.specs.Agreement.{Same, Shared, Between, Seen, ShapeOnly, Reads, Agrees}
@@ -239,3 +239,21 @@ number-agrees limit =
       seen = number-seen limit;
       reads = λ c n piece rest text at g stop e. number-reads text at limit c n piece rest g stop e;
     }
+
+-- ten digits are no more than this
+limited-by : (at limit : ℕ) (p : ℕ × ℕ) (empty longer : Result (ℕ × ℕ) Fault) (a b : Bool) → andThen empty (λ q. cond (ltb limit (q .0)) (Err (Reading (Number at))) (Ok q)) ≡ empty → andThen longer (λ q. cond (ltb limit (q .0)) (Err (Reading (Number at))) (Ok q)) ≡ longer → ltb 9999999999 (p .0) ≡ false
+  → cond a empty (cond b longer (cond (ltb limit (p .0)) (Err (Reading (Number at))) (Ok p))) ≡ andThen (cond a empty (cond b longer (cond (ltb 9999999999 (p .0)) (Err (Reading (Number at))) (Ok p)))) (λ q. cond (ltb limit (q .0)) (Err (Reading (Number at))) (Ok q))
+limited-by at limit p empty longer true b n m e = sym n
+limited-by at limit p empty longer false true n m e = sym m
+limited-by at limit p empty longer false false n m e = ap (λ t. andThen (cond t (Err (Reading (Number at))) (Ok p)) (λ q. cond (ltb limit (q .0)) (Err (Reading (Number at))) (Ok q))) (sym e)
+
+-- a limit is a test of what is read without it
+pub number-limited : (text : List ℕ) (at limit : ℕ) → numberAt text at limit ≡ andThen (numberAt text at 9999999999) (λ q. cond (ltb limit (q .0)) (Err (Reading (Number at))) (Ok q))
+unfolding numberAt
+number-limited text at limit =
+    let r = run text at 10 in
+    let p = digitsFrom text at 10 in
+    let small : value 10 (r .piece) < 10 ^ 10 = value-short (numerals-by-value (Digits 10) tells-digits) (r .piece) 10 (r .digits) (r .most) in
+    let same : p .0 ≡ value 10 (r .piece) = ap (λ (q : ℕ × ℕ). q .0) (r .found) in
+    let low : p .0 ≤ 9999999999 = omega (arith, small, same) in
+    limited-by at limit p (wrongAt at) (wrongAt (p .1)) (eqb (p .1) at) (isSome (digitAt text (p .1))) refl refl (le-ltb 9999999999 (p .0) low)
