@@ -8,3 +8,4 @@ pub mod Lists
 pub mod Lines
 pub mod Turning
 pub mod Bodies
+pub mod Dispatch

@@ -1,0 +1,98 @@
+-- The form at a place, chosen byte by byte.
+use Prim.Native.Nat.{ℕ, zero, suc, _+_, _≤_, max}
+use mathlib.Core.Bool.{Bool, true, false, cond, _&&_}
+use mathlib.Core.List.{List, [], _∷_}
+use mathlib.Core.Logic.{inl, inr}
+use mathlib.Core.Path.{_≡_, refl, sym, ap, _∙_, subst}
+use native.Mathlib.Numerals.{add-one}
+use native.Mathlib.Omega.{arith}
+use lib.Dec.{eqb}
+use lib.ListN.{drop}
+use Rattle.std.proofs.shelf.Tests.{cases-eq, ne-eqb}
+use Rattle.std.specs.Finite.{nth}
+use Rattle.std.specs.declared.option.Option.{Option}
+use Rattle.std.specs.declared.option.Option.the-variants.{Some, None}
+use Rattle.std.specs.declared.result.Result.{Result}
+use Rattle.std.specs.declared.result.Result.the-variants.{Ok, Err}
+use Rattle.books.specs.declared.fault.Fault.{Fault}
+use Rattle.text.specs.Bytes.{andThen, wrongAt, passAt, passIf}
+use Rattle.text.specs.Words.{passWord, agreesTo, isByte}
+use Rattle.text.specs.Kinds.{orderOpening, begins, kindOf}
+use Rattle.text.specs.Rules.{ruleAt}
+use Rattle.text.specs.Forms.{Line, orderLine, atomLine, ruleLine, endLine, closing, nextNumber, ifRoom, readingAt, orderAt, atomAt, ruleFormAt, voidAt, endAt, refusedAt, byKind, formAt}
+use Rattle.text.specs.declared.kind.Kind.{Kind}
+use Rattle.text.specs.declared.kind.Kind.the-variants as kind
+use Rattle.text.specs.declared.reader.Stage.the-variants.{Start, Atoms, Rules}
+use Rattle.text.specs.declared.reader.Room.{Room}
+
+-- a text begins with a word if its first byte is the word's, and what follows begins with the rest
+begins-step : (b : ℕ) (word text : List ℕ) (at : ℕ) → begins (b ∷ word) (drop at text) ≡ (isByte b (nth text at) && begins word (drop (at + 1) text))
+begins-step b word text at = by-suc text at ∙ ap (λ n. isByte b (nth text at) && begins word (drop n text)) (sym (add-one at))
+  where
+    by-suc : (text : List ℕ) (at : ℕ) → begins (b ∷ word) (drop at text) ≡ (isByte b (nth text at) && begins word (drop (suc at) text))
+    by-suc [] zero = refl
+    by-suc [] (suc at) = refl
+    by-suc (x ∷ text) zero = refl
+    by-suc (x ∷ text) (suc at) = by-suc text at
+
+-- a byte is passed where it stands
+pass-if : (b at : ℕ) (o : Option ℕ) → passIf b at o ≡ cond (isByte b o) (Ok (at + 1)) (wrongAt at)
+pass-if b at None = refl
+pass-if b at (Some x) = refl
+
+pass-by : {X : Type 0} (t : Bool) (at m : ℕ) (K : ℕ → Result X Fault) → andThen (cond t (Ok m) (wrongAt at)) K ≡ cond t (K m) (wrongAt at)
+pass-by true at m K = refl
+pass-by false at m K = refl
+
+byte-first : {X : Type 0} (b : ℕ) (text : List ℕ) (at : ℕ) (K : ℕ → Result X Fault) → andThen (passAt b text at) K ≡ cond (isByte b (nth text at)) (K (at + 1)) (wrongAt at)
+byte-first b text at K = ap (λ r. andThen r K) (pass-if b at (nth text at)) ∙ pass-by (isByte b (nth text at)) at (at + 1) K
+
+word-by : {X : Type 0} (t : Bool) (at m : ℕ) (P : ℕ → Result ℕ Fault) (K : ℕ → Result X Fault) → andThen (cond t (P m) (wrongAt at)) K ≡ cond t (andThen (P m) K) (wrongAt at)
+word-by true at m P K = refl
+word-by false at m P K = refl
+
+-- a word is passed by its first byte, and then the rest
+word-first : {X : Type 0} (b : ℕ) (word text : List ℕ) (at : ℕ) (K : ℕ → Result X Fault) → andThen (passWord (b ∷ word) text at) K ≡ cond (isByte b (nth text at)) (andThen (passWord word text (at + 1)) K) (wrongAt at)
+unfolding passWord
+word-first b word text at K = ap (λ r. andThen r K) (byte-first b text at (passWord word text)) ∙ word-by (isByte b (nth text at)) at (at + 1) (passWord word text) K
+
+-- a word with which the text does not begin is refused where they part
+word-refused : {X : Type 0} (word text : List ℕ) (at : ℕ) (K : ℕ → Result X Fault) → begins word (drop at text) ≡ false → andThen (passWord word text at) K ≡ wrongAt (agreesTo word text at)
+unfolding agreesTo
+word-refused [] text at K h = let z : _≡_ {A = ℕ} 0 1 = cc in absurd (omega arith)
+word-refused {X} (b ∷ word) text at K h = word-first b word text at K ∙ parts (isByte b (nth text at)) (begins word (drop (at + 1) text)) (andThen (passWord word text (at + 1)) K) (agreesTo word text (at + 1)) (word-refused word text (at + 1) K) (sym (begins-step b word text at) ∙ h)
+  where
+    parts : (t u : Bool) (r : Result X Fault) (j : ℕ) → (u ≡ false → r ≡ wrongAt j) → (t && u) ≡ false → cond t r (wrongAt at) ≡ wrongAt (cond t j at)
+    parts true u r j f e = f e
+    parts false u r j f e = refl
+
+agrees-past : (word text : List ℕ) (at : ℕ) → at ≤ agreesTo word text at
+unfolding agreesTo
+agrees-past [] text at = omega arith
+agrees-past (b ∷ word) text at = by-test (isByte b (nth text at)) (agreesTo word text (at + 1)) (agrees-past word text (at + 1))
+  where
+    by-test : (t : Bool) (j : ℕ) → at + 1 ≤ j → at ≤ cond t j at
+    by-test true j l = omega arith
+    by-test false j l = omega arith
+
+-- the byte after a bracket tells at most one form
+data Told : Bool → Bool → Bool → Bool → Bool → Type 0 where
+  by-order : Told true false false false false
+  by-atom : Told false true false false false
+  by-rule : Told false false true false false
+  by-void : Told false false false true false
+  by-end : Told false false false false true
+  by-none : Told false false false false false
+
+abbrev TellsBy : ℕ → Type 0
+TellsBy b = Told (eqb b 111) (eqb b 97) (eqb b 114) (eqb b 118) (eqb b 101)
+
+told : (o : Option ℕ) → Told (isByte 111 o) (isByte 97 o) (isByte 114 o) (isByte 118 o) (isByte 101 o)
+told None = by-none
+told (Some b) =
+    elim (cases-eq b 111) [ | inl e ↦ subst TellsBy (sym e) by-order | inr o ↦
+    elim (cases-eq b 97) [ | inl e ↦ subst TellsBy (sym e) by-atom | inr a ↦
+    elim (cases-eq b 114) [ | inl e ↦ subst TellsBy (sym e) by-rule | inr r ↦
+    elim (cases-eq b 118) [ | inl e ↦ subst TellsBy (sym e) by-void | inr v ↦
+    elim (cases-eq b 101) [ | inl e ↦ subst TellsBy (sym e) by-end | inr n ↦
+    rw (ne-eqb b 111 o, ne-eqb b 97 a, ne-eqb b 114 r, ne-eqb b 118 v, ne-eqb b 101 n) by-none ] ] ] ] ]
