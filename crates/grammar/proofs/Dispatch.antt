@@ -96,3 +96,61 @@ told (Some b) =
     elim (cases-eq b 118) [ | inl e ↦ subst TellsBy (sym e) by-void | inr v ↦
     elim (cases-eq b 101) [ | inl e ↦ subst TellsBy (sym e) by-end | inr n ↦
     rw (ne-eqb b 111 o, ne-eqb b 97 a, ne-eqb b 114 r, ne-eqb b 118 v, ne-eqb b 101 n) by-none ] ] ] ] ]
+
+-- the kind, by whether the text begins with each opening
+abbrev kindBy : Bool → Bool → Bool → Bool → Bool → Option Kind
+kindBy o a r v e = cond o (Some kind.Order) (cond a (Some kind.Atom) (cond r (Some kind.Rule) (cond v (Some kind.Void) (cond e (Some kind.End) None))))
+
+kind-same : (o a r v e o' a' r' v' e' : Bool) → o ≡ o' → a ≡ a' → r ≡ r' → v ≡ v' → e ≡ e' → kindBy o' a' r' v' e' ≡ kindBy o a r v e
+kind-same o a r v e o' a' r' v' e' p q s t u = rw (p, q, s, t, u)
+
+-- where only one form is allowed, its reader refuses what does not begin it
+one-by : {X : Type 0} (O N : X) (o a r v e : Bool) → (o ≡ false → O ≡ N) → O ≡ byKind (kindBy o a r v e) O N N N N N
+one-by O N true a r v e h = refl
+one-by O N false true r v e h = h refl
+one-by O N false false true v e h = h refl
+one-by O N false false false true e h = h refl
+one-by O N false false false false true h = h refl
+one-by O N false false false false false h = h refl
+
+-- how a form is read from the byte that tells it: whether that byte stands there, whether the rest begins so, the place up to which it agrees
+record Way {X : Type 0} (m : ℕ) (here begun : Bool) (reach : ℕ) (answer : Result X Fault) : Type 0 where
+  past : m ≤ reach
+  refused : (here && begun) ≡ false → answer ≡ wrongAt (cond here reach m)
+
+abbrev WayAt : {X : Type 0} → ℕ → List ℕ → List ℕ → ℕ → Result X Fault → Type 0
+WayAt b word text m answer = Way m (isByte b (nth text m)) (begins word (drop (m + 1) text)) (agreesTo word text (m + 1)) answer
+
+way : {X : Type 0} (b : ℕ) (word text : List ℕ) (m : ℕ) (K : ℕ → Result X Fault) → WayAt b word text m (andThen (passWord (b ∷ word) text m) K)
+unfolding agreesTo
+way b word text m K =
+    record {
+      past = omega (arith, agrees-past word text (m + 1));
+      refused = λ h. word-refused (b ∷ word) text m K (begins-step b word text m ∙ h)
+    }
+
+module _ {X : Type 0} (m ja jr jv je : ℕ) (A R V E : Result X Fault) where
+  abbrev lateReach : Bool → Bool → Bool → ℕ
+  lateReach r v e = max (cond r jr m) (max (cond v jv m) (cond e je m))
+
+  -- two refusals at the same place
+  at-place : {Y : Type 0} (r : Result Y Fault) (j k : ℕ) → r ≡ wrongAt j → j ≡ k → r ≡ wrongAt k
+  at-place r j k h e = h ∙ ap wrongAt e
+
+  abbrev LateBy : Bool → Bool → Bool → Bool → Bool → Bool → Bool → Bool → Bool → Bool → Type 0
+  LateBy o a r v e bo ba br bv be =
+      let N = wrongAt (lateReach r v e) in
+      cond r R (cond v V E) ≡ byKind (kindBy (o && bo) (a && ba) (r && br) (v && bv) (e && be)) N N R V E N
+
+  late-by : {o a r v e : Bool} → Told o a r v e → (bo ba br bv be : Bool) → Way m r br jr R → Way m v bv jv V → Way m e be je E → LateBy o a r v e bo ba br bv be
+  late-by by-order true ba br bv be x y z = at-place E m _ (z .refused refl) (omega arith)
+  late-by by-order false ba br bv be x y z = at-place E m _ (z .refused refl) (omega arith)
+  late-by by-atom bo true br bv be x y z = at-place E m _ (z .refused refl) (omega arith)
+  late-by by-atom bo false br bv be x y z = at-place E m _ (z .refused refl) (omega arith)
+  late-by by-rule bo ba true bv be x y z = refl
+  late-by by-rule bo ba false bv be x y z = at-place R jr _ (x .refused refl) (omega (arith, x .past))
+  late-by by-void bo ba br true be x y z = refl
+  late-by by-void bo ba br false be x y z = at-place V jv _ (y .refused refl) (omega (arith, y .past))
+  late-by by-end bo ba br bv true x y z = refl
+  late-by by-end bo ba br bv false x y z = at-place E je _ (z .refused refl) (omega (arith, z .past))
+  late-by by-none bo ba br bv be x y z = at-place E m _ (z .refused refl) (omega arith)
