@@ -154,3 +154,72 @@ module _ {X : Type 0} (m ja jr jv je : ℕ) (A R V E : Result X Fault) where
   late-by by-end bo ba br bv true x y z = refl
   late-by by-end bo ba br bv false x y z = at-place E je _ (z .refused refl) (omega (arith, z .past))
   late-by by-none bo ba br bv be x y z = at-place E m _ (z .refused refl) (omega arith)
+
+  abbrev EarlyBy : Bool → Bool → Bool → Bool → Bool → Bool → Bool → Bool → Bool → Bool → Type 0
+  EarlyBy o a r v e bo ba br bv be =
+      let N = wrongAt (max (cond a ja m) (lateReach r v e)) in
+      cond a A (cond r R (cond v V E)) ≡ byKind (kindBy (o && bo) (a && ba) (r && br) (v && bv) (e && be)) N A R V E N
+
+  early-by : {o a r v e : Bool} → Told o a r v e → (bo ba br bv be : Bool) → Way m a ba ja A → Way m r br jr R → Way m v bv jv V → Way m e be je E → EarlyBy o a r v e bo ba br bv be
+  early-by by-order true ba br bv be w x y z = at-place E m _ (z .refused refl) (omega arith)
+  early-by by-order false ba br bv be w x y z = at-place E m _ (z .refused refl) (omega arith)
+  early-by by-atom bo true br bv be w x y z = refl
+  early-by by-atom bo false br bv be w x y z = at-place A ja _ (w .refused refl) (omega (arith, w .past))
+  early-by by-rule bo ba true bv be w x y z = refl
+  early-by by-rule bo ba false bv be w x y z = at-place R jr _ (x .refused refl) (omega (arith, x .past))
+  early-by by-void bo ba br true be w x y z = refl
+  early-by by-void bo ba br false be w x y z = at-place V jv _ (y .refused refl) (omega (arith, y .past))
+  early-by by-end bo ba br bv true w x y z = refl
+  early-by by-end bo ba br bv false w x y z = at-place E je _ (z .refused refl) (omega (arith, z .past))
+  early-by by-none bo ba br bv be w x y z = at-place E m _ (z .refused refl) (omega arith)
+
+-- a choice after the bracket, or no bracket
+module _ {X : Type 0} (at : ℕ) where
+  abbrev ifOpen : Bool → Result X Fault → Result X Fault
+  ifOpen t r = cond t r (wrongAt at)
+
+  opened : (t o a r v e : Bool) (L N A R V E : Result X Fault) → L ≡ byKind (kindBy o a r v e) N A R V E N → ifOpen t L ≡ byKind (kindBy (t && o) (t && a) (t && r) (t && v) (t && e)) (ifOpen t N) (ifOpen t A) (ifOpen t R) (ifOpen t V) (ifOpen t E) (ifOpen t N)
+  opened true o a r v e L N A R V E h = h
+  opened false o a r v e L N A R V E h = refl
+
+  late-place : (t : Bool) (r v e : ℕ) → ifOpen t (wrongAt (max r (max v e))) ≡ wrongAt (max (cond t r at) (max (cond t v at) (cond t e at)))
+  late-place true r v e = refl
+  late-place false r v e = ap wrongAt (omega arith)
+
+  early-place : (t : Bool) (a r v e : ℕ) → ifOpen t (wrongAt (max a (max r (max v e)))) ≡ wrongAt (max (cond t a at) (max (cond t r at) (max (cond t v at) (cond t e at))))
+  early-place true a r v e = refl
+  early-place false a r v e = ap wrongAt (omega arith)
+
+table-same : {X : Type 0} (k k' : Option Kind) (N N' A A' R R' V V' E E' : X) → k ≡ k' → N ≡ N' → A ≡ A' → R ≡ R' → V ≡ V' → E ≡ E' → byKind k N A R V E N ≡ byKind k' N' A' R' V' E' N'
+table-same k k' N N' A A' R R' V V' E E' p q s t u w = cc
+
+-- the bracket, the byte that tells the form, and the rest of an opening
+opening-step : (b : ℕ) (word text : List ℕ) (at : ℕ) → begins (40 ∷ b ∷ word) (drop at text) ≡ (isByte 40 (nth text at) && (isByte b (nth text (at + 1)) && begins word (drop (at + 1 + 1) text)))
+opening-step b word text at = begins-step 40 (b ∷ word) text at ∙ ap (λ u. isByte 40 (nth text at) && u) (begins-step b word text (at + 1))
+
+-- the openings after the byte that tells the form
+abbrev orderRest : List ℕ
+orderRest = 114 ∷ 100 ∷ 101 ∷ 114 ∷ 32 ∷ []
+
+abbrev atomRest : List ℕ
+atomRest = 116 ∷ 111 ∷ 109 ∷ 32 ∷ []
+
+abbrev ruleRest : List ℕ
+ruleRest = 117 ∷ 108 ∷ 101 ∷ 32 ∷ []
+
+abbrev voidRest : List ℕ
+voidRest = 111 ∷ 105 ∷ 100 ∷ 32 ∷ []
+
+abbrev endRest : List ℕ
+endRest = 110 ∷ 100 ∷ 41 ∷ []
+
+-- whether a text begins with the byte that tells a form and the rest of the opening
+abbrev tells : List ℕ → ℕ → ℕ → List ℕ → Bool
+tells text m b word = isByte b (nth text m) && begins word (drop (m + 1) text)
+
+kind-at : (text : List ℕ) (at : ℕ) →
+  (let t = isByte 40 (nth text at) in
+  kindBy (t && tells text (at + 1) 111 orderRest) (t && tells text (at + 1) 97 atomRest) (t && tells text (at + 1) 114 ruleRest) (t && tells text (at + 1) 118 voidRest) (t && tells text (at + 1) 101 endRest) ≡ kindOf (drop at text))
+kind-at text at =
+    kind-same _ _ _ _ _ _ _ _ _ _
+    (opening-step 111 orderRest text at) (opening-step 97 atomRest text at) (opening-step 114 ruleRest text at) (opening-step 118 voidRest text at) (opening-step 101 endRest text at)
