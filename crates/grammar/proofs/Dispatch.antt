@@ -13,13 +13,13 @@ use Rattle.std.specs.Finite.{nth}
 use Rattle.std.specs.declared.option.Option.{Option}
 use Rattle.std.specs.declared.option.Option.the-variants.{Some, None}
 use Rattle.std.specs.declared.result.Result.{Result}
-use Rattle.std.specs.declared.result.Result.the-variants.{Ok, Err}
+use Rattle.std.specs.declared.result.Result.the-variants.{Ok}
 use Rattle.books.specs.declared.fault.Fault.{Fault}
 use Rattle.text.specs.Bytes.{andThen, wrongAt, passAt, passIf}
 use Rattle.text.specs.Words.{passWord, agreesTo, isByte}
-use Rattle.text.specs.Kinds.{orderOpening, begins, kindOf}
+use Rattle.text.specs.Kinds.{orderOpening, atomOpening, ruleOpening, voidOpening, endOpening, begins, kindOf}
 use Rattle.text.specs.Rules.{ruleAt}
-use Rattle.text.specs.Forms.{Line, orderLine, atomLine, ruleLine, endLine, closing, nextNumber, ifRoom, readingAt, orderAt, atomAt, ruleFormAt, voidAt, endAt, refusedAt, byKind, formAt}
+use Rattle.text.specs.Forms.{Line, atomLine, ruleLine, endLine, closing, nextNumber, ifRoom, readingAt, orderAt, atomAt, ruleFormAt, voidAt, endAt, refusedAt, byKind, formAt}
 use Rattle.text.specs.declared.kind.Kind.{Kind}
 use Rattle.text.specs.declared.kind.Kind.the-variants as kind
 use Rattle.text.specs.declared.reader.Stage.the-variants.{Start, Atoms, Rules}
@@ -129,13 +129,15 @@ way b word text m K =
       refused = λ h. word-refused (b ∷ word) text m K (begins-step b word text m ∙ h)
     }
 
-module _ {X : Type 0} (m ja jr jv je : ℕ) (A R V E : Result X Fault) where
+-- a refusal at the same place
+at-place : {X : Type 0} (r : Result X Fault) (j k : ℕ) → r ≡ wrongAt j → j ≡ k → r ≡ wrongAt k
+at-place r j k h e = h ∙ ap wrongAt e
+
+-- the choice by the byte that tells the form is the choice by its kind
+module _ {X : Type 0} (m jr jv je : ℕ) (R V E : Result X Fault) where
+  -- the place up to which the text agrees with a form of a rule
   abbrev lateReach : Bool → Bool → Bool → ℕ
   lateReach r v e = max (cond r jr m) (max (cond v jv m) (cond e je m))
-
-  -- two refusals at the same place
-  at-place : {Y : Type 0} (r : Result Y Fault) (j k : ℕ) → r ≡ wrongAt j → j ≡ k → r ≡ wrongAt k
-  at-place r j k h e = h ∙ ap wrongAt e
 
   abbrev LateBy : Bool → Bool → Bool → Bool → Bool → Bool → Bool → Bool → Bool → Bool → Type 0
   LateBy o a r v e bo ba br bv be =
@@ -155,23 +157,24 @@ module _ {X : Type 0} (m ja jr jv je : ℕ) (A R V E : Result X Fault) where
   late-by by-end bo ba br bv false x y z = at-place E je _ (z .refused refl) (omega (arith, z .past))
   late-by by-none bo ba br bv be x y z = at-place E m _ (z .refused refl) (omega arith)
 
-  abbrev EarlyBy : Bool → Bool → Bool → Bool → Bool → Bool → Bool → Bool → Bool → Bool → Type 0
-  EarlyBy o a r v e bo ba br bv be =
-      let N = wrongAt (max (cond a ja m) (lateReach r v e)) in
-      cond a A (cond r R (cond v V E)) ≡ byKind (kindBy (o && bo) (a && ba) (r && br) (v && bv) (e && be)) N A R V E N
+  module _ (ja : ℕ) (A : Result X Fault) where
+    abbrev EarlyBy : Bool → Bool → Bool → Bool → Bool → Bool → Bool → Bool → Bool → Bool → Type 0
+    EarlyBy o a r v e bo ba br bv be =
+        let N = wrongAt (max (cond a ja m) (lateReach r v e)) in
+        cond a A (cond r R (cond v V E)) ≡ byKind (kindBy (o && bo) (a && ba) (r && br) (v && bv) (e && be)) N A R V E N
 
-  early-by : {o a r v e : Bool} → Told o a r v e → (bo ba br bv be : Bool) → Way m a ba ja A → Way m r br jr R → Way m v bv jv V → Way m e be je E → EarlyBy o a r v e bo ba br bv be
-  early-by by-order true ba br bv be w x y z = at-place E m _ (z .refused refl) (omega arith)
-  early-by by-order false ba br bv be w x y z = at-place E m _ (z .refused refl) (omega arith)
-  early-by by-atom bo true br bv be w x y z = refl
-  early-by by-atom bo false br bv be w x y z = at-place A ja _ (w .refused refl) (omega (arith, w .past))
-  early-by by-rule bo ba true bv be w x y z = refl
-  early-by by-rule bo ba false bv be w x y z = at-place R jr _ (x .refused refl) (omega (arith, x .past))
-  early-by by-void bo ba br true be w x y z = refl
-  early-by by-void bo ba br false be w x y z = at-place V jv _ (y .refused refl) (omega (arith, y .past))
-  early-by by-end bo ba br bv true w x y z = refl
-  early-by by-end bo ba br bv false w x y z = at-place E je _ (z .refused refl) (omega (arith, z .past))
-  early-by by-none bo ba br bv be w x y z = at-place E m _ (z .refused refl) (omega arith)
+    early-by : {o a r v e : Bool} → Told o a r v e → (bo ba br bv be : Bool) → Way m a ba ja A → Way m r br jr R → Way m v bv jv V → Way m e be je E → EarlyBy o a r v e bo ba br bv be
+    early-by by-order true ba br bv be w x y z = at-place E m _ (z .refused refl) (omega arith)
+    early-by by-order false ba br bv be w x y z = at-place E m _ (z .refused refl) (omega arith)
+    early-by by-atom bo true br bv be w x y z = refl
+    early-by by-atom bo false br bv be w x y z = at-place A ja _ (w .refused refl) (omega (arith, w .past))
+    early-by by-rule bo ba true bv be w x y z = refl
+    early-by by-rule bo ba false bv be w x y z = at-place R jr _ (x .refused refl) (omega (arith, x .past))
+    early-by by-void bo ba br true be w x y z = refl
+    early-by by-void bo ba br false be w x y z = at-place V jv _ (y .refused refl) (omega (arith, y .past))
+    early-by by-end bo ba br bv true w x y z = refl
+    early-by by-end bo ba br bv false w x y z = at-place E je _ (z .refused refl) (omega (arith, z .past))
+    early-by by-none bo ba br bv be w x y z = at-place E m _ (z .refused refl) (omega arith)
 
 -- a choice after the bracket, or no bracket
 module _ {X : Type 0} (at : ℕ) where
@@ -223,3 +226,71 @@ kind-at : (text : List ℕ) (at : ℕ) →
 kind-at text at =
     kind-same _ _ _ _ _ _ _ _ _ _
     (opening-step 111 orderRest text at) (opening-step 97 atomRest text at) (opening-step 114 ruleRest text at) (opening-step 118 voidRest text at) (opening-step 101 endRest text at)
+
+module _ {S : Type 0} (stampAt : List ℕ → ℕ → Result (S × ℕ) Fault) (word : List ℕ) (room : Room) (atoms rules : ℕ) where
+  -- an atom after its bracket, which stands at `at`
+  abbrev pub afterAtom : ℕ → List ℕ → ℕ → Result (Line S × ℕ) Fault
+  afterAtom at text m =
+      andThen (passWord (97 ∷ 116 ∷ 111 ∷ 109 ∷ 32 ∷ []) text m)
+      (λ a. ifRoom at atoms (room .atoms)
+      (andThen (nextNumber text atoms a)
+      (λ b. andThen (passAt 32 text b)
+      (λ c. andThen (readingAt text c)
+      (λ k. andThen (stampAt text (k .1))
+      (λ s. andThen (passWord closing text (s .1))
+      (λ next. Ok (atomLine (record { stamp = s .0; reading = k .0 }), next))))))))
+
+  -- a rule after its bracket
+  abbrev pub afterRule : ℕ → List ℕ → ℕ → Result (Line S × ℕ) Fault
+  afterRule at text m =
+      andThen (passWord (114 ∷ 117 ∷ 108 ∷ 101 ∷ 32 ∷ []) text m)
+      (λ a. ifRoom at rules (room .rules)
+      (andThen (nextNumber text rules a)
+      (λ b. andThen (ruleAt text (record { form = at; rule = rules; atoms = atoms }) b)
+      (λ p. andThen (passWord closing text (p .1))
+      (λ next. Ok (ruleLine (Some (p .0)), next))))))
+
+  -- a void rule after its bracket
+  abbrev pub afterVoid : ℕ → List ℕ → ℕ → Result (Line S × ℕ) Fault
+  afterVoid at text m =
+      andThen (passWord (118 ∷ 111 ∷ 105 ∷ 100 ∷ 32 ∷ []) text m)
+      (λ a. ifRoom at rules (room .rules)
+      (andThen (nextNumber text rules a)
+      (λ b. andThen (passWord closing text b)
+      (λ next. Ok (ruleLine None, next)))))
+
+  -- the end after its bracket
+  abbrev pub afterEnd : List ℕ → ℕ → Result (Line S × ℕ) Fault
+  afterEnd text m = andThen (passWord (101 ∷ 110 ∷ 100 ∷ 41 ∷ []) text m) (λ a. andThen (passAt 10 text a) (λ next. Ok (endLine, next)))
+
+  -- at the start only an order is allowed
+  pub start-same : (text : List ℕ) (at : ℕ) → orderAt word text at ≡ formAt stampAt word text room (record { stage = Start; next = at; atoms = atoms; rules = rules })
+  unfolding formAt refusedAt orderAt
+  start-same text at =
+      let bytes = drop at text in
+      one-by _ _ (begins orderOpening bytes) (begins atomOpening bytes) (begins ruleOpening bytes) (begins voidOpening bytes) (begins endOpening bytes) (word-refused orderOpening text at _)
+
+  -- among rules a form is told by its second byte
+  pub rules-same : (text : List ℕ) (at : ℕ) → andThen (passAt 40 text at) (λ m. cond (isByte 114 (nth text m)) (afterRule at text m) (cond (isByte 118 (nth text m)) (afterVoid at text m) (afterEnd text m))) ≡ formAt stampAt word text room (record { stage = Rules; next = at; atoms = atoms; rules = rules })
+  unfolding formAt refusedAt agreesTo ruleFormAt voidAt endAt
+  rules-same text at =
+      let m = at + 1 in
+      let bytes = drop (m + 1) text in
+      let bracket = isByte 40 (nth text at) in
+      let choice = late-by m _ _ _ _ _ _ (told (nth text m)) (begins orderRest bytes) (begins atomRest bytes) _ _ _ (way 114 ruleRest text m _) (way 118 voidRest text m _) (way 101 endRest text m _) in
+      let place = late-place at bracket _ _ _ in
+      byte-first 40 text at _
+      ∙ opened at bracket _ _ _ _ _ _ _ _ _ _ _ choice
+      ∙ table-same _ _ _ _ _ _ _ _ _ _ _ _ (kind-at text at) place place (sym (word-first 40 _ text at _)) (sym (word-first 40 _ text at _)) (sym (word-first 40 _ text at _))
+
+  -- and among atoms too
+  pub atoms-same : (text : List ℕ) (at : ℕ) → andThen (passAt 40 text at) (λ m. cond (isByte 97 (nth text m)) (afterAtom at text m) (cond (isByte 114 (nth text m)) (afterRule at text m) (cond (isByte 118 (nth text m)) (afterVoid at text m) (afterEnd text m)))) ≡ formAt stampAt word text room (record { stage = Atoms; next = at; atoms = atoms; rules = rules })
+  unfolding formAt refusedAt agreesTo atomAt ruleFormAt voidAt endAt
+  atoms-same text at =
+      let m = at + 1 in
+      let bytes = drop (m + 1) text in
+      let bracket = isByte 40 (nth text at) in
+      let choice = early-by m _ _ _ _ _ _ _ _ (told (nth text m)) (begins orderRest bytes) _ _ _ _ (way 97 atomRest text m _) (way 114 ruleRest text m _) (way 118 voidRest text m _) (way 101 endRest text m _) in
+      byte-first 40 text at _
+      ∙ opened at bracket _ _ _ _ _ _ _ _ _ _ _ choice
+      ∙ table-same _ _ _ _ _ _ _ _ _ _ _ _ (kind-at text at) (early-place at bracket _ _ _ _) (sym (word-first 40 _ text at _)) (sym (word-first 40 _ text at _)) (sym (word-first 40 _ text at _)) (sym (word-first 40 _ text at _))
