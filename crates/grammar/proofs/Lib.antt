@@ -17,3 +17,4 @@ pub mod Onward
 pub mod Turned
 pub mod Whole
 pub mod Stamped
+pub mod Dispatch
