@@ -18,3 +18,4 @@ pub mod Turned
 pub mod Whole
 pub mod Stamped
 pub mod Dispatch
+pub mod Aisled
