@@ -19,3 +19,4 @@ pub mod Whole
 pub mod Stamped
 pub mod Dispatch
 pub mod Aisled
+pub mod Staged
