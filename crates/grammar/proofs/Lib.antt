@@ -20,3 +20,4 @@ pub mod Stamped
 pub mod Dispatch
 pub mod Aisled
 pub mod Staged
+pub mod Laws

@@ -24,7 +24,6 @@ use Rattle.text.specs.declared.reader.Stage.the-variants.{Start}
 use Rattle.grammar.specs.Pieces.{Care, shape, kept, Kept}
 use Rattle.grammar.specs.Grammar.{Spells}
 use Rattle.grammar.specs.Agreement.{AtByte, Same, Shared, Between, Seen, ShapeOnly, Reads, Agrees}
-use Rattle.grammar.specs.Theorems.{RefusedThere}
 use Rattle.grammar.proofs.Agreeing.{Reaches, Via, agrees-then, shared-from}
 use Rattle.grammar.proofs.Lines.{FormAt}
 use Rattle.grammar.proofs.Onward.{lines, Lines, lines-rest, start-lines, lines-agree}
@@ -189,14 +188,8 @@ module _ {S : Type 0} (stampAt : List ℕ → ℕ → Result (S × ℕ) Fault) (
       let shared = subst (λ r. Shared r (whole stampAt word room n other 0) text other) (whole-fault text n (omega arith) (Reading (Byte k)) e) (whole-agrees n .shared text other 0) in
       book-is other n (omega arith) ∙ ap booked (shared same)
 
-  -- so a byte is refused at the first place where no text of the grammar's shape has it
-  pub book-refused-there : (spelt : S → List ℕ) (Fits : S → Type 0) (text : List ℕ) (k : ℕ) → bookAt stampAt word text room ≡ Err (Reading (Byte k)) → RefusedThere stampAt word spells spelt Fits text k
-  book-refused-there spelt Fits text k e =
-      let viable = book-viable text k e in
-      record {
-        within = viable .0;
-        before = (viable .1 .0, (viable .1 .1, viable .1 .2));
-        none = λ l more (m, h).
-          let other = take (k + 1) text ++ more in
-          never-byte shape (book other) m k (book-reads shape other m h tt) (book-shared text other k e (same-front text more k l))
-      }
+  -- so a byte is refused where no text of the grammar's shape has it
+  pub book-none : (text : List ℕ) (k : ℕ) → bookAt stampAt word text room ≡ Err (Reading (Byte k)) → k < length text → (more : List ℕ) (m : Meaning S) → Spells word spells shape m (take (k + 1) text ++ more) → ⊥
+  book-none text k e l more m h =
+      let other = take (k + 1) text ++ more in
+      never-byte shape (book other) m k (book-reads shape other m h tt) (book-shared text other k e (same-front text more k l))

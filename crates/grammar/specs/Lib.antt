@@ -2,4 +2,5 @@ pub mod Pieces
 pub mod Stamps
 pub mod Grammar
 pub mod Agreement
+pub mod Notations
 pub mod Theorems

@@ -1,5 +1,6 @@
--- What ties reading and writing to the grammar. S is a kind of stamp: how it is read, its word, how the grammar spells it and how it is written.
+-- What ties reading and writing to the grammar.
 use Prim.Native.Nat.{ℕ, _+_, _<_, _≤_, min}
+use mathlib.Core.Bool.{Bool}
 use mathlib.Core.List.{List, _++_}
 use mathlib.Core.Path.{_≡_}
 use lib.ListN.{length, take}
@@ -13,54 +14,79 @@ use Rattle.books.specs.declared.fault.Fault.{Fault}
 use Rattle.books.specs.declared.fault.Fault.the-variants.{Reading}
 use Rattle.text.specs.Reads.{bookAt, roomOf}
 use Rattle.text.specs.Spelt.{bookText}
+use Rattle.writing.specs.Replies.{canonicalAt}
 use Rattle.writing.specs.Writes.{bookGap}
 use Rattle.grammar.specs.Pieces.{Care, shape, kept, plain}
 use Rattle.grammar.specs.Grammar.{Spells}
+use Rattle.grammar.specs.Notations.{Notation}
 
 -- tables of these lengths, and the limits of a book, take the book
 pub record Takes {S : Type 0} (atoms rules : ℕ) (m : Meaning S) : Type 0 where
   pub fewAtoms : length (m .atoms) ≤ min atoms 1024
   pub fewRules : length (m .rules) ≤ min rules 1024
 
-module _ {S : Type 0} (stampAt : List ℕ → ℕ → Result (S × ℕ) Fault) (word : List ℕ) (spells : Care → S → List ℕ → Type 0) (spelt : S → List ℕ) (Fits : S → Type 0) where
+module _ {S : Type 0} (n : Notation S) where
+  -- the book of a text, read into tables of these lengths
+  abbrev pub readAs : List ℕ → ℕ → ℕ → Result (Meaning S) Fault
+  readAs text atoms rules = bookAt (n .stampAt) (n .word) text (roomOf atoms rules)
+
+  -- the text that is written of a book
+  abbrev pub writtenOf : Meaning S → List ℕ
+  writtenOf m = bookText (n .word) (n .spelt) m
+
+  -- the text spells the book, and keeps so much of the rules
+  abbrev pub SpeltBy : Care → Meaning S → List ℕ → Type 0
+  SpeltBy c m text = Spells (n .word) (n .spells) c m text
+
+  -- each stamp of the book is one that the machine holds
+  abbrev pub Held : Meaning S → Type 0
+  Held m = All (λ (a : Atom S). n .Fits (a .stamp)) (m .atoms)
+
   -- a text is read as a book exactly where it spells the book, keeping every rule, and the tables take it
   pub record ReadAsSpelt (text : List ℕ) (atoms rules : ℕ) (m : Meaning S) : Type 0 where
-    pub spelling : bookAt stampAt word text (roomOf atoms rules) ≡ Ok m → Spells word spells kept m text
-    pub takes : bookAt stampAt word text (roomOf atoms rules) ≡ Ok m → Takes atoms rules m
-    pub reads : Spells word spells kept m text → Takes atoms rules m → bookAt stampAt word text (roomOf atoms rules) ≡ Ok m
+    pub spelling : readAs text atoms rules ≡ Ok m → SpeltBy kept m text
+    pub takes : readAs text atoms rules ≡ Ok m → Takes atoms rules m
+    pub reads : SpeltBy kept m text → Takes atoms rules m → readAs text atoms rules ≡ Ok m
 
   abbrev pub ReadingIsTheGrammar : Type 0
   ReadingIsTheGrammar = (text : List ℕ) (atoms rules : ℕ) (m : Meaning S) → ReadAsSpelt text atoms rules m
 
-  -- a book that the writer takes, with stamps that the machine holds, is spelt by its text and read back as it was
+  -- a book that the writer takes is read back from its text as it was
   abbrev pub WrittenIsReadBack : Type 0
-  WrittenIsReadBack =
-      (atoms rules : ℕ) (m : Meaning S) → bookGap m ≡ None → All (λ (a : Atom S). Fits (a .stamp)) (m .atoms) → Takes atoms rules m
-      → bookAt stampAt word (bookText word spelt m) (roomOf atoms rules) ≡ Ok m
+  WrittenIsReadBack = (atoms rules : ℕ) (m : Meaning S) → bookGap m ≡ None → Held m → Takes atoms rules m → readAs (writtenOf m) atoms rules ≡ Ok m
 
-  -- the book of an accepted text is one that the writer takes; its text is canonical and read as the same book
-  pub record ComesBack (text : List ℕ) (atoms rules : ℕ) (m : Meaning S) : Type 0 where
+  -- the writer takes the book; its text is canonical and is read as the same book
+  pub record ComesBack (atoms rules : ℕ) (m : Meaning S) : Type 0 where
     pub written : bookGap m ≡ None
-    pub held : All (λ (a : Atom S). Fits (a .stamp)) (m .atoms)
-    pub canonical : Spells word spells plain m (bookText word spelt m)
-    pub same : bookAt stampAt word (bookText word spelt m) (roomOf atoms rules) ≡ Ok m
+    pub held : Held m
+    pub canonical : SpeltBy plain m (writtenOf m)
+    pub same : readAs (writtenOf m) atoms rules ≡ Ok m
 
+  -- so comes back the book of every text that is read
   abbrev pub AcceptedComesBack : Type 0
-  AcceptedComesBack = (text : List ℕ) (atoms rules : ℕ) (m : Meaning S) → bookAt stampAt word text (roomOf atoms rules) ≡ Ok m → ComesBack text atoms rules m
+  AcceptedComesBack = (text : List ℕ) (atoms rules : ℕ) (m : Meaning S) → readAs text atoms rules ≡ Ok m → ComesBack atoms rules m
 
-  -- a text without leading zeros is the one that is written of its book
+  -- a text with no leading zero is the one that is written of its book
   abbrev pub CanonicalIsUnchanged : Type 0
-  CanonicalIsUnchanged = (text : List ℕ) (m : Meaning S) → Spells word spells plain m text → bookText word spelt m ≡ text
+  CanonicalIsUnchanged = (text : List ℕ) (m : Meaning S) → SpeltBy plain m text → writtenOf m ≡ text
+
+  -- what is answered to a text is answered to itself, whatever the order of the stamps
+  abbrev pub AnswerIsItsOwn : Type 0
+  AnswerIsItsOwn =
+      (before notAfter : S → S → Bool) (text answer : List ℕ) (atoms rules room : ℕ)
+      → canonicalAt (n .stampAt) (n .word) (n .spelt) before notAfter text atoms rules room ≡ Ok answer
+      → canonicalAt (n .stampAt) (n .word) (n .spelt) before notAfter answer atoms rules room ≡ Ok answer
 
   -- the text has the shape of some book's
   abbrev pub Shaped : List ℕ → Type 0
-  Shaped text = (m : Meaning S) × Spells word spells shape m text
+  Shaped text = (m : Meaning S) × SpeltBy shape m text
 
-  -- a byte is refused where what stands before it begins a text of the grammar's shape, and with it begins none
+  -- what stands before the place begins a text of the grammar's shape, and with the byte at the place it begins none
   pub record RefusedThere (text : List ℕ) (k : ℕ) : Type 0 where
     pub within : k ≤ length text
     pub before : (more : List ℕ) × Shaped (take k text ++ more)
     pub none : k < length text → (more : List ℕ) → Shaped (take (k + 1) text ++ more) → ⊥
 
+  -- there is refused a text that has a byte or a form that is not allowed
   abbrev pub RefusedAtTheFirstByte : Type 0
-  RefusedAtTheFirstByte = (text : List ℕ) (atoms rules k : ℕ) → bookAt stampAt word text (roomOf atoms rules) ≡ Err (Reading (Byte k)) → RefusedThere text k
+  RefusedAtTheFirstByte = (text : List ℕ) (atoms rules k : ℕ) → readAs text atoms rules ≡ Err (Reading (Byte k)) → RefusedThere text k
