@@ -24,6 +24,10 @@ use Rattle.grammar.specs.Pieces.{Care, shape, kept, plain, Kept, Exactly, Foll
 use Rattle.grammar.specs.Agreement.{AtByte, Same, Shared, Between, Seen, ShapeOnly, Reads, Agrees}
 use Rattle.grammar.proofs.Places.{nth-front, drop-step, drop-past, between-join, between-none, between-one}
 
+-- whatever follows
+abbrev pub Any : List ℕ → Type 0
+Any rest = Unit {0}
+
 pub at-byte-map : (e : Fault) {P Q : ℕ → Type 0} → ((k : ℕ) → P k → Q k) → AtByte e P → AtByte e Q
 at-byte-map (Reading (Byte k)) f h = f k h
 at-byte-map (Reading (NotRising k)) f h = tt
@@ -99,7 +103,7 @@ agrees-same P Q G Stop e a =
       sample = a .sample;
       shared = λ text other at. subst (λ r. Shared r (Q other at) text other) (e text at) (subst (λ r. Shared (P text at) r text other) (e other at) (a .shared text other at));
       seen = λ text at. subst (λ r. Seen G r text at) (e text at) (a .seen text at);
-      reads = λ c x piece rest text at g s d. subst (λ r. Reads c r x (at + length piece)) (e text at) (a .reads c x piece rest text at g s d)
+      reads = λ c x piece rest text at g s d. subst (λ r. Reads c r x (at + length piece)) (e text at) (a .reads c x piece rest text at g s d);
     }
 
 -- a grammar with the same pieces is agreed with too
@@ -110,7 +114,7 @@ agrees-as {X} P G H Stop to from a =
       sample = let s = a .sample in (s .0, s .1, to shape (s .0) (s .1) (s .2));
       shared = a .shared;
       seen = λ text at. seen-as (P text at) text at (a .seen text at);
-      reads = λ c x piece rest text at h s d. a .reads c x piece rest text at (from c x piece h) s d
+      reads = λ c x piece rest text at h s d. a .reads c x piece rest text at (from c x piece h) s d;
     }
   where
     seen-as : (r : Result (X × ℕ) Fault) (text : List ℕ) (at : ℕ) → Seen G r text at → Seen H r text at
@@ -125,7 +129,7 @@ agrees-before P G Stop Before to a =
       sample = a .sample;
       shared = a .shared;
       seen = a .seen;
-      reads = λ c x piece rest text at h s d. a .reads c x piece rest text at h (to rest s) d
+      reads = λ c x piece rest text at h s d. a .reads c x piece rest text at h (to rest s) d;
     }
 
 -- a piece, and then one that goes by what the first says
@@ -136,7 +140,7 @@ agrees-then {X} {Y} P Q G H Stop After a b starts =
       sample = let s = a .sample in let t = b 0 (s .0) .sample in (t .0, s .1 ++ t .1, via G H [] shape (s .0) (t .0) (s .1) (t .1) (s .1 ++ t .1) refl (s .2) (t .2));
       shared = λ text other at. shared-then text other (P text at) (P other at) (λ p. Q at (p .0) text (p .1)) (λ p. Q at (p .0) other (p .1)) (a .shared text other at) (λ p. b at (p .0) .shared text other (p .1)) (λ p. seen-reaches (H (p .0)) (Q at (p .0) text (p .1)) text (p .1) (b at (p .0) .seen text (p .1)));
       seen = λ text at. seen-then G H text at (P text at) (λ p. Q at (p .0) text (p .1)) (λ x piece. a .shaped kept x piece) (λ x. b at x .sample) (a .seen text at) (λ p. b at (p .0) .seen text (p .1));
-      reads = reads-both
+      reads = reads-both;
     }
   where
     reads-both : (c : Care) (y : Y) (piece rest text : List ℕ) (at : ℕ) → Via G H c y piece → After rest → drop at text ≡ piece ++ rest → Reads c (andThen (P text at) (λ p. Q at (p .0) text (p .1))) y (at + length piece)
@@ -160,8 +164,8 @@ agrees-done v Stop =
       shared = λ text other at same. refl;
       seen = λ text at. ([], between-none text at, (refl, refl));
       reads = λ c x piece rest text at h s d.
-        let place : at ≡ at + length piece = omega (arith, ap length (h .1)) in
-        inl (ap (λ y. Ok (y, at)) (sym (h .0)) ∙ ap (λ n. Ok (x, n)) place)
+          let place : at ≡ at + length piece = omega (arith, ap length (h .1)) in
+          inl (ap (λ y. Ok (y, at)) (sym (h .0)) ∙ ap (λ n. Ok (x, n)) place);
     }
 
 -- the fault, unless the test is passed; the rest of a reader where it is
@@ -197,7 +201,7 @@ module _ {X : Type 0} (e : Fault) (other-fault : AtByte e (λ _. ⊥)) (P : List
         sample = let s = a .sample in (s .0, s .1, (tt, s .2));
         shared = shared-if b;
         seen = seen-if b;
-        reads = λ c x piece rest text at h s d. reads-if b c x piece rest text at (h .0) (h .1) s d
+        reads = λ c x piece rest text at h s d. reads-if b c x piece rest text at (h .0) (h .1) s d;
       }
 
 -- an answer that goes by the one byte at a place
@@ -244,9 +248,9 @@ module _ (byte : ℕ) where
         shared = λ text other at. shared-from text other at (unsaid (passAt byte text at)) (unsaid (passAt byte other at)) (seen-reaches Byted (unsaid (passAt byte text at)) text at (seen-at text at (nth text at) refl)) (λ same. ap (λ o. unsaid (passIf byte at o)) (sym (same at (omega arith))));
         seen = λ text at. seen-at text at (nth text at) refl;
         reads = λ c u piece rest text at h s d.
-          let here = front-byte text at rest (d ∙ ap (λ t. t ++ rest) h) in
-          let place : at + 1 ≡ at + length piece = omega (arith, ap length h) in
-          inl (ap unsaid (pass-byte text at here) ∙ ap (λ n. Ok (tt, n)) place)
+            let here = front-byte text at rest (d ∙ ap (λ t. t ++ rest) h) in
+            let place : at + 1 ≡ at + length piece = omega (arith, ap length h) in
+            inl (ap unsaid (pass-byte text at here) ∙ ap (λ n. Ok (tt, n)) place);
       }
 
   -- a byte that must stand there, and then what may go by its place

@@ -25,15 +25,12 @@ use Rattle.text.specs.declared.aisles.Aisles.{Aisles}
 use Rattle.grammar.specs.Pieces.{Care, Kept, Exactly, Followed, Numeral, Spaced, Listed}
 use Rattle.grammar.specs.Stamps.{RouteSpelt, RisingFrom, withAisles}
 use Rattle.grammar.specs.Agreement.{Agrees}
-use Rattle.grammar.proofs.Agreeing.{Via, then-then, agrees-same, agrees-as, agrees-then, agrees-done}
+use Rattle.grammar.proofs.Agreeing.{Any, Via, then-then, agrees-same, agrees-as, agrees-then, agrees-done}
 use Rattle.grammar.proofs.Canonical.{list-within}
 use Rattle.grammar.proofs.Choosing.{kept-map}
 use Rattle.grammar.proofs.Lists.{ended, unended, run, adds, Passes, Bracketed, listed, list-agrees, kept-both, kept-three, followed-map}
 use Rattle.grammar.proofs.Numbers.{number-limited}
 use Rattle.grammar.proofs.Turning.{tries-first, tries-stay, onward-same, open-same}
-
-abbrev Any : List ℕ → Type 0
-Any rest = Unit {0}
 
 -- the mask so far, and the least aisle that may follow
 abbrev State : Type 0
@@ -76,8 +73,8 @@ module _ (text : List ℕ) where
 
   -- the turn of an aisle that was read
   turn-on : (n : ℕ) (s : State) (at v k : ℕ) (low : Bool) → ((m : ℕ) → rest n (add s v) true m ≡ running n (add s v) text m)
-    → finish (andThen (cond low (Err (notRising at s v)) (andThen (onwardAt text k) (λ q. Ok (state (add s v) (q .0) (q .1))))) (λ y. tries (oneAisle text) y n))
-    ≡ cond low (Err (notRising at s v)) (cond (isByte 32 (nth text k)) (andThen (passAt 32 text k) (running n (add s v) text)) (andThen (passAt 41 text k) (λ m. Ok (add s v, m))))
+      → finish (andThen (cond low (Err (notRising at s v)) (andThen (onwardAt text k) (λ q. Ok (state (add s v) (q .0) (q .1))))) (λ y. tries (oneAisle text) y n))
+      ≡ cond low (Err (notRising at s v)) (cond (isByte 32 (nth text k)) (andThen (passAt 32 text k) (running n (add s v) text)) (andThen (passAt 41 text k) (λ m. Ok (add s v, m))))
   unfolding onwardAt
   turn-on n s at v k true h = refl
   turn-on n s at v k false h =
@@ -90,8 +87,8 @@ module _ (text : List ℕ) where
 
   -- the turn of an answer of the number's reader
   turn-by : (n : ℕ) (s : State) (at : ℕ) (r : Result (ℕ × ℕ) Fault) → ((v m : ℕ) → rest n (add s v) true m ≡ running n (add s v) text m)
-    → finish (andThen (andThen (andThen r (λ q. cond (ltb 63 (q .0)) (Err (Reading (Number at))) (Ok q))) (aisle s at)) (λ y. tries (oneAisle text) y n))
-    ≡ andThen r (λ p. cond (ltb 63 (p .0)) (Err (tooHigh at s (p .0))) (cond (ltb (p .0) (s .1)) (Err (notRising at s (p .0))) (cond (isByte 32 (nth text (p .1))) (andThen (passAt 32 text (p .1)) (running n (add s (p .0)) text)) (andThen (passAt 41 text (p .1)) (λ m. Ok (add s (p .0), m))))))
+      → finish (andThen (andThen (andThen r (λ q. cond (ltb 63 (q .0)) (Err (Reading (Number at))) (Ok q))) (aisle s at)) (λ y. tries (oneAisle text) y n))
+      ≡ andThen r (λ p. cond (ltb 63 (p .0)) (Err (tooHigh at s (p .0))) (cond (ltb (p .0) (s .1)) (Err (notRising at s (p .0))) (cond (isByte 32 (nth text (p .1))) (andThen (passAt 32 text (p .1)) (running n (add s (p .0)) text)) (andThen (passAt 41 text (p .1)) (λ m. Ok (add s (p .0), m))))))
   turn-by n s at (Ok p) h = turned (ltb 63 (p .0))
     where
       turned : (high : Bool) → finish (andThen (andThen (cond high (Err (Reading (Number at))) (Ok p)) (aisle s at)) (λ y. tries (oneAisle text) y n)) ≡ cond high (Err (tooHigh at s (p .0))) (cond (ltb (p .0) (s .1)) (Err (notRising at s (p .0))) (cond (isByte 32 (nth text (p .1))) (andThen (passAt 32 text (p .1)) (running n (add s (p .0)) text)) (andThen (passAt 41 text (p .1)) (λ m. Ok (add s (p .0), m)))))
@@ -200,7 +197,7 @@ route-agrees =
           aisles = ks;
           listed = followed-map _ _ _ _ text (λ t e. e) (λ t. followed-map _ _ _ _ t (λ u g. lower c ks u g (kept-map c (pass-high (0, 0) ks) (b .passes))) (λ u e. e)) f;
           rising = kept-map c (pass-rising (0, 0) ks) (b .passes);
-          means = mask
+          means = mask;
         }
 
     from : (c : Care) (r : Route) (text : List ℕ) → RouteSpelt c r text → Via Aisling Routed c r text
@@ -210,9 +207,9 @@ route-agrees =
         let mask : r .aisles ≡ t .0 = s .means ∙ sym (adds-mask (0, 0) ks) in
         let same : r ≡ route t = ap (λ (x : ℕ). record { aisles = x }) mask in
         let b : Aisling c t text = record {
-              numbers = ks;
-              spelt = followed-map _ _ _ _ text (λ u e. e) (λ u. followed-map _ _ _ _ u (higher c ks) (λ w e. e)) (s .listed);
-              passes = kept-map c (λ h. passes (0, 0) ks (h .0) (h .1)) (kept-both (All (λ k. k ≤ 63) ks) (RisingFrom 0 ks) c (list-within c 63 ks text (s .listed)) (s .rising));
-              means = refl
-            } in
+          numbers = ks;
+          spelt = followed-map _ _ _ _ text (λ u e. e) (λ u. followed-map _ _ _ _ u (higher c ks) (λ w e. e)) (s .listed);
+          passes = kept-map c (λ h. passes (0, 0) ks (h .0) (h .1)) (kept-both (All (λ k. k ≤ 63) ks) (RisingFrom 0 ks) c (list-within c 63 ks text (s .listed)) (s .rising));
+          means = refl;
+        } in
         record { value = t; parts = unended (λ p. Aisling c t p) (r ≡ route t) text same b }

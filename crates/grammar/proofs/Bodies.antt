@@ -25,7 +25,7 @@ use Rattle.text.specs.declared.site.Site.{Site}
 use Rattle.grammar.specs.Pieces.{Care, Kept}
 use Rattle.grammar.specs.Grammar.{Body}
 use Rattle.grammar.specs.Agreement.{Agrees}
-use Rattle.grammar.proofs.Agreeing.{then-then, agrees-same, agrees-as}
+use Rattle.grammar.proofs.Agreeing.{Any, then-then, agrees-same, agrees-as}
 use Rattle.grammar.proofs.Choosing.{kept-map}
 use Rattle.grammar.proofs.Lists.{run, adds, Passes, Bracketed, listed, list-agrees, kept-both}
 use Rattle.grammar.proofs.Turning.{tries-first, tries-stay, onward-same, open-same}
@@ -67,8 +67,8 @@ module _ (site : Site) (before : ℕ) where
 
     -- the turn of a number that was read
     turn-on : (n : ℕ) (s : List ℕ) (at : ℕ) (v k : ℕ) (a b : Bool) → ((m : ℕ) → rest n (add s v) true m ≡ running n (add s v) text m)
-      → andThen (andThen (andThen (cond a (Err (many at s v)) (cond b (Err (missing at s v)) (andThen (onwardAt text k) (λ q. Ok (v, q .0, q .1))))) (λ p. Ok (extended (state s true at) p))) (λ y. tries (oneLiteral text site before) y n)) (λ l. Ok (l .atoms, l .next))
-      ≡ cond a (Err (many at s v)) (cond b (Err (missing at s v)) (cond (isByte 32 (nth text k)) (andThen (passAt 32 text k) (running n (add s v) text)) (andThen (passAt 41 text k) (λ m. Ok (add s v, m)))))
+        → andThen (andThen (andThen (cond a (Err (many at s v)) (cond b (Err (missing at s v)) (andThen (onwardAt text k) (λ q. Ok (v, q .0, q .1))))) (λ p. Ok (extended (state s true at) p))) (λ y. tries (oneLiteral text site before) y n)) (λ l. Ok (l .atoms, l .next))
+        ≡ cond a (Err (many at s v)) (cond b (Err (missing at s v)) (cond (isByte 32 (nth text k)) (andThen (passAt 32 text k) (running n (add s v) text)) (andThen (passAt 41 text k) (λ m. Ok (add s v, m)))))
     unfolding onwardAt
     turn-on n s at v k true b h = refl
     turn-on n s at v k false true h = refl
@@ -80,8 +80,8 @@ module _ (site : Site) (before : ℕ) where
 
     -- the turn of an answer of the number's reader
     turn-by : (n : ℕ) (s : List ℕ) (at : ℕ) (r : Result (ℕ × ℕ) Fault) → ((v m : ℕ) → rest n (add s v) true m ≡ running n (add s v) text m)
-      → finish (andThen (andThen (andThen r (λ p. cond (leb 6 (length s)) (Err (many at s (p .0))) (cond (leb (site .atoms) (p .0)) (Err (missing at s (p .0))) (andThen (onwardAt text (p .1)) (λ q. Ok (p .0, q .0, q .1)))))) (λ p. Ok (extended (state s true at) p))) (λ y. tries (oneLiteral text site before) y n))
-      ≡ andThen r (λ p. cond (leb 6 (length s)) (Err (many at s (p .0))) (cond (leb (site .atoms) (p .0)) (Err (missing at s (p .0))) (cond (isByte 32 (nth text (p .1))) (andThen (passAt 32 text (p .1)) (running n (add s (p .0)) text)) (andThen (passAt 41 text (p .1)) (λ m. Ok (add s (p .0), m))))))
+        → finish (andThen (andThen (andThen r (λ p. cond (leb 6 (length s)) (Err (many at s (p .0))) (cond (leb (site .atoms) (p .0)) (Err (missing at s (p .0))) (andThen (onwardAt text (p .1)) (λ q. Ok (p .0, q .0, q .1)))))) (λ p. Ok (extended (state s true at) p))) (λ y. tries (oneLiteral text site before) y n))
+        ≡ andThen r (λ p. cond (leb 6 (length s)) (Err (many at s (p .0))) (cond (leb (site .atoms) (p .0)) (Err (missing at s (p .0))) (cond (isByte 32 (nth text (p .1))) (andThen (passAt 32 text (p .1)) (running n (add s (p .0)) text)) (andThen (passAt 41 text (p .1)) (λ m. Ok (add s (p .0), m))))))
     turn-by n s at (Ok p) h = turn-on n s at (p .0) (p .1) (leb 6 (length s)) (leb (site .atoms) (p .0)) (h (p .0))
     turn-by n s at (Err e) h = refl
 
@@ -138,10 +138,10 @@ module _ (site : Site) (before : ℕ) where
       let left : length (add s v) + length vs ≤ 6 = omega (arith, length-push s v) in
       (lt-leb 6 (length s) room, lt-leb (site .atoms) v (h .0), passes (add s v) vs left (h .1))
 
-  pub body-agrees : Agrees (λ text at. bodyAt text site before at) (λ c ns text. Body c (site .atoms) ns text) (λ _. Unit {0})
+  pub body-agrees : Agrees (λ text at. bodyAt text site before at) (λ c ns text. Body c (site .atoms) ns text) Any
   body-agrees =
-      agrees-same whole _ _ (λ _. Unit {0}) body-same
-      (agrees-as whole _ (λ c ns text. Body c (site .atoms) ns text) (λ _. Unit {0}) to from
+      agrees-same whole _ _ Any body-same
+      (agrees-as whole _ (λ c ns text. Body c (site .atoms) ns text) Any to from
       (list-agrees 4294967295 add full unknown many missing (λ at s v. tt) (λ at s v. tt) Few enough-next enough-last 6 [] (omega arith)))
     where
       to : (c : Care) (ns text : List ℕ) → Bracketed 4294967295 add full unknown many missing c [] ns text → Body c (site .atoms) ns text

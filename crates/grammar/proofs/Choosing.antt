@@ -70,7 +70,7 @@ module _ {X : Type 0} (byte : ℕ) (P Q : List ℕ → ℕ → Result (X × ℕ)
           sample = let s = b .sample in (s .0, s .1, inr (s .2));
           shared = λ text other at. shared-choice (isByte byte (nth text at)) text other at (chosen other at) (λ same. ap (λ o. choose (isByte byte o) other at) (sym (same at (omega arith))));
           seen = λ text at. seen-choice (isByte byte (nth text at)) text at;
-          reads = reads-choice
+          reads = reads-choice;
         }
 
 flip : {X : Type 0} (b : Bool) (x y : X) → cond (not b) x y ≡ cond b y x
@@ -103,7 +103,7 @@ agrees-never {X} e n G Stop shaped sample none =
       sample = sample;
       shared = λ text other at. not-at-byte e _ n;
       seen = λ text at. not-at-byte e _ n;
-      reads = λ c x piece rest text at g s d. refused c x at piece (none c x piece g)
+      reads = λ c x piece rest text at g s d. refused c x at piece (none c x piece g);
     }
   where
     refused : (c : Care) (x : X) (at : ℕ) (piece : List ℕ) → Kept c ⊥ → Reads c (Err e) x (at + length piece)

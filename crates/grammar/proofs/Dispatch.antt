@@ -90,12 +90,27 @@ TellsBy b = Told (eqb b 111) (eqb b 97) (eqb b 114) (eqb b 118) (eqb b 101)
 told : (o : Option ℕ) → Told (isByte 111 o) (isByte 97 o) (isByte 114 o) (isByte 118 o) (isByte 101 o)
 told None = by-none
 told (Some b) =
-    elim (cases-eq b 111) [ | inl e ↦ subst TellsBy (sym e) by-order | inr o ↦
-    elim (cases-eq b 97) [ | inl e ↦ subst TellsBy (sym e) by-atom | inr a ↦
-    elim (cases-eq b 114) [ | inl e ↦ subst TellsBy (sym e) by-rule | inr r ↦
-    elim (cases-eq b 118) [ | inl e ↦ subst TellsBy (sym e) by-void | inr v ↦
-    elim (cases-eq b 101) [ | inl e ↦ subst TellsBy (sym e) by-end | inr n ↦
-    rw (ne-eqb b 111 o, ne-eqb b 97 a, ne-eqb b 114 r, ne-eqb b 118 v, ne-eqb b 101 n) by-none ] ] ] ] ]
+    elim (cases-eq b 111) [
+      | inl e ↦ subst TellsBy (sym e) by-order
+      | inr o ↦
+          elim (cases-eq b 97) [
+            | inl e ↦ subst TellsBy (sym e) by-atom
+            | inr a ↦
+                elim (cases-eq b 114) [
+                  | inl e ↦ subst TellsBy (sym e) by-rule
+                  | inr r ↦
+                      elim (cases-eq b 118) [
+                        | inl e ↦ subst TellsBy (sym e) by-void
+                        | inr v ↦
+                            elim (cases-eq b 101) [
+                              | inl e ↦ subst TellsBy (sym e) by-end
+                              | inr n ↦
+                                  rw (ne-eqb b 111 o, ne-eqb b 97 a, ne-eqb b 114 r, ne-eqb b 118 v, ne-eqb b 101 n) by-none
+                            ]
+                      ]
+                ]
+          ]
+    ]
 
 -- the kind, by whether the text begins with each opening
 abbrev kindBy : Bool → Bool → Bool → Bool → Bool → Option Kind
@@ -126,7 +141,7 @@ unfolding agreesTo
 way b word text m K =
     record {
       past = omega (arith, agrees-past word text (m + 1));
-      refused = λ h. word-refused (b ∷ word) text m K (begins-step b word text m ∙ h)
+      refused = λ h. word-refused (b ∷ word) text m K (begins-step b word text m ∙ h);
     }
 
 -- a refusal at the same place
@@ -221,8 +236,8 @@ abbrev tells : List ℕ → ℕ → ℕ → List ℕ → Bool
 tells text m b word = isByte b (nth text m) && begins word (drop (m + 1) text)
 
 kind-at : (text : List ℕ) (at : ℕ) →
-  (let t = isByte 40 (nth text at) in
-  kindBy (t && tells text (at + 1) 111 orderRest) (t && tells text (at + 1) 97 atomRest) (t && tells text (at + 1) 114 ruleRest) (t && tells text (at + 1) 118 voidRest) (t && tells text (at + 1) 101 endRest) ≡ kindOf (drop at text))
+    (let t = isByte 40 (nth text at) in
+    kindBy (t && tells text (at + 1) 111 orderRest) (t && tells text (at + 1) 97 atomRest) (t && tells text (at + 1) 114 ruleRest) (t && tells text (at + 1) 118 voidRest) (t && tells text (at + 1) 101 endRest) ≡ kindOf (drop at text))
 kind-at text at =
     kind-same _ _ _ _ _ _ _ _ _ _
     (opening-step 111 orderRest text at) (opening-step 97 atomRest text at) (opening-step 114 ruleRest text at) (opening-step 118 voidRest text at) (opening-step 101 endRest text at)

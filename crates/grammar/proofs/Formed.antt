@@ -27,14 +27,11 @@ use Rattle.text.specs.declared.site.Site.{Site}
 use Rattle.grammar.specs.Pieces.{Care, Kept, Exactly, Followed, Numeral}
 use Rattle.grammar.specs.Grammar.{Numbered, Declared, Body}
 use Rattle.grammar.specs.Agreement.{Agrees}
-use Rattle.grammar.proofs.Agreeing.{Via, then-then, agrees-same, agrees-as, agrees-then, agrees-done, agrees-if, byte-then, word-then}
+use Rattle.grammar.proofs.Agreeing.{Any, Via, then-then, agrees-same, agrees-as, agrees-then, agrees-done, agrees-if, byte-then, word-then}
 use Rattle.grammar.proofs.Bodies.{body-agrees}
 use Rattle.grammar.proofs.Choosing.{kept-map, agrees-choice, agrees-unless}
 use Rattle.grammar.proofs.Lists.{NoDigit, ended, unended}
 use Rattle.grammar.proofs.Numbers.{number-agrees}
-
-abbrev Any : List ℕ → Type 0
-Any rest = Unit {0}
 
 abbrev Known : Site → ℕ → Care → ℕ → List ℕ → Type 0
 Known site v c n piece = Kept c (leb (site .atoms) v ≡ false) × ((n ≡ v) × (piece ≡ []))

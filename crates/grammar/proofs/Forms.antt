@@ -24,13 +24,10 @@ use Rattle.text.specs.declared.site.Site.{Site}
 use Rattle.grammar.specs.Pieces.{Care, Kept, Exactly, Followed}
 use Rattle.grammar.specs.Grammar.{Numbered, Declared, Body}
 use Rattle.grammar.specs.Agreement.{Agrees}
-use Rattle.grammar.proofs.Agreeing.{Via, agrees-as, agrees-then, agrees-done, byte-then, word-then, word-to, word-from}
+use Rattle.grammar.proofs.Agreeing.{Any, Via, agrees-as, agrees-then, agrees-done, byte-then, word-then, word-to, word-from}
 use Rattle.grammar.proofs.Choosing.{kept-map, agrees-unless}
 use Rattle.grammar.proofs.Formed.{Parts, kind-agrees, numbered-then, rule-agrees}
 use Rattle.grammar.proofs.Lists.{NoDigit, ended, unended}
-
-abbrev Any : List ℕ → Type 0
-Any rest = Unit {0}
 
 -- where a piece begins with a byte that is no digit
 pub starts : (b : ℕ) (word : List ℕ) (A : List ℕ → Type 0) (piece rest : List ℕ) → digitOf (Some b) ≡ None → Followed (Exactly (b ∷ word)) A piece → NoDigit (piece ++ rest)
@@ -46,7 +43,6 @@ module _ (S : Type 0) (room : Room) (atoms rules : ℕ) where
 
   closed-stops : (line : Line S) (c : Care) (y : Line S) (piece rest : List ℕ) → Closed line c y piece → NoDigit (piece ++ rest)
   closed-stops line c y piece rest f = starts 41 (10 ∷ []) (λ p. (y ≡ line) × (p ≡ [])) piece rest refl f
-
 
   -- a rule, from its number on
   abbrev pub RuleRest : Care → Line S → List ℕ → Type 0

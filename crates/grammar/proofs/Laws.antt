@@ -28,7 +28,7 @@ use Rattle.grammar.specs.Agreement.{Agrees}
 use Rattle.grammar.specs.Notations.{Notation, ticks, routes, pairs}
 use Rattle.grammar.specs.Pieces.{Care, shape, kept, plain}
 use Rattle.grammar.specs.Theorems.{Takes, readAs, writtenOf, SpeltBy, Held, ReadAsSpelt, ReadingIsTheGrammar, WrittenIsReadBack, ComesBack, AcceptedComesBack, CanonicalIsUnchanged, AnswerIsItsOwn, RefusedThere, RefusedAtTheFirstByte}
-use Rattle.grammar.proofs.Agreeing.{agrees-before}
+use Rattle.grammar.proofs.Agreeing.{Any, agrees-before}
 use Rattle.grammar.proofs.Aisled.{route-agrees}
 use Rattle.grammar.proofs.Books.{book-canonical, book-unique, spelt-held, spelt-gapless, plain-kept, tick-plain-kept, pair-plain-kept, route-plain-kept}
 use Rattle.grammar.proofs.Canonical.{tick-canonical, tick-unique, tick-fits, pair-canonical, pair-unique, pair-fits}
@@ -55,7 +55,7 @@ lawful-ticks =
       canonical = λ t h. tick-canonical t (omega (arith, h));
       unique = tick-unique;
       held = λ t text h. omega (arith, tick-fits t text h);
-      plainly = tick-plain-kept
+      plainly = tick-plain-kept;
     }
 
 pub lawful-pairs : Lawful pairs
@@ -65,7 +65,7 @@ lawful-pairs =
       canonical = λ p h. pair-canonical p (omega (arith, h .0)) (omega (arith, h .1));
       unique = pair-unique;
       held = λ p text h. let f = pair-fits p text h in (omega (arith, f .0), omega (arith, f .1));
-      plainly = pair-plain-kept
+      plainly = pair-plain-kept;
     }
 
 pub lawful-routes : Lawful routes
@@ -75,11 +75,11 @@ lawful-routes =
       canonical = route-canonical;
       unique = route-unique;
       held = route-fits;
-      plainly = route-plain-kept
+      plainly = route-plain-kept;
     }
 
 module _ {S : Type 0} (n : Notation S) (l : Lawful n) where
-  forms : (room : Room) (stage : Stage) → Going stage → (atoms rules : ℕ) → Agrees (λ text at. formAt (n .stampAt) (n .word) text room (record { stage = stage; next = at; atoms = atoms; rules = rules })) (FormAt (n .word) (n .spells) room stage atoms rules) (λ _. Unit {0})
+  forms : (room : Room) (stage : Stage) → Going stage → (atoms rules : ℕ) → Agrees (λ text at. formAt (n .stampAt) (n .word) text room (record { stage = stage; next = at; atoms = atoms; rules = rules })) (FormAt (n .word) (n .spells) room stage atoms rules) Any
   forms room stage g atoms rules = forms-agree (n .stampAt) (n .word) (n .spells) room (l .agrees) atoms rules stage g
 
   pub reading-is-the-grammar : ReadingIsTheGrammar n
@@ -88,7 +88,7 @@ module _ {S : Type 0} (n : Notation S) (l : Lawful n) where
       record {
         spelling = λ e. book-seen (n .stampAt) (n .word) (n .spells) room (forms room) text m e .0;
         takes = λ e. let b = book-seen (n .stampAt) (n .word) (n .spells) room (forms room) text m e in record { fewAtoms = b .1; fewRules = b .2 };
-        reads = λ h t. elim (book-reads (n .stampAt) (n .word) (n .spells) room (forms room) kept text m h (t .fewAtoms, t .fewRules)) [ | inl e ↦ e | inr z ↦ absurd (z .0) ]
+        reads = λ h t. elim (book-reads (n .stampAt) (n .word) (n .spells) room (forms room) kept text m h (t .fewAtoms, t .fewRules)) [ inl e ↦ e | inr z ↦ absurd (z .0) ];
       }
 
   pub written-is-read-back : WrittenIsReadBack n
@@ -107,7 +107,7 @@ module _ {S : Type 0} (n : Notation S) (l : Lawful n) where
         written = gapless;
         held = held;
         canonical = book-canonical (n .word) (n .spells) (n .spelt) (n .Fits) (l .canonical) m gapless held;
-        same = written-is-read-back atoms rules m gapless held takes
+        same = written-is-read-back atoms rules m gapless held takes;
       }
 
   pub canonical-is-unchanged : CanonicalIsUnchanged n
@@ -136,5 +136,5 @@ module _ {S : Type 0} (n : Notation S) (l : Lawful n) where
       record {
         within = viable .0;
         before = (viable .1 .0, (viable .1 .1, viable .1 .2));
-        none = λ below more (m, h). book-none (n .stampAt) (n .word) (n .spells) room (forms room) text k e below more m h
+        none = λ below more (m, h). book-none (n .stampAt) (n .word) (n .spells) room (forms room) text k e below more m h;
       }

@@ -20,7 +20,7 @@ use Rattle.text.specs.Numbers.{digitOf, numberAt}
 use Rattle.text.specs.Words.{isByte}
 use Rattle.grammar.specs.Pieces.{Care, shape, kept, plain, Kept, Exactly, Followed, Numeral, Spaced, Listed}
 use Rattle.grammar.specs.Agreement.{AtByte, Agrees}
-use Rattle.grammar.proofs.Agreeing.{Via, agrees-same, agrees-as, agrees-then, agrees-done, byte-then}
+use Rattle.grammar.proofs.Agreeing.{Any, Via, agrees-same, agrees-as, agrees-then, agrees-done, byte-then}
 use Rattle.grammar.proofs.Choosing.{kept-map, agrees-choice, agrees-unless, agrees-never}
 use Rattle.grammar.proofs.Numbers.{number-agrees}
 
@@ -37,7 +37,7 @@ regroup A B C text f =
       back = g .back;
       whole = f .whole ∙ ap (λ t. f .front ++ t) (g .whole) ∙ sym (append-assoc (f .front) (g .front) (g .back));
       first = record { front = f .front; back = g .front; whole = refl; first = f .first; second = g .first };
-      second = g .second
+      second = g .second;
     }
 
 pub ungroup : (A B C : List ℕ → Type 0) (text : List ℕ) → Followed (Followed A B) C text → Followed A (Followed B C) text
@@ -48,7 +48,7 @@ ungroup A B C text f =
       back = g .back ++ f .back;
       whole = f .whole ∙ ap (λ t. t ++ f .back) (g .whole) ∙ append-assoc (g .front) (g .back) (f .back);
       first = g .first;
-      second = record { front = g .back; back = f .back; whole = refl; first = g .second; second = f .second }
+      second = record { front = g .back; back = f .back; whole = refl; first = g .second; second = f .second };
     }
 
 pub followed-map : (A B C D : List ℕ → Type 0) (text : List ℕ) → ((t : List ℕ) → A t → C t) → ((t : List ℕ) → B t → D t) → Followed A B text → Followed C D text
@@ -151,7 +151,7 @@ module _ {A : Type 0} (limit : ℕ) (add : A → ℕ → A) (first second : A �
         rest = tail .head ∷ tail .rest;
         parts = regroup (Numbers c v) (Followed (Exactly (32 ∷ [])) spaced) (Exactly (41 ∷ [])) text outer;
         passes = kept-three (first s v ≡ false) (second s v ≡ false) (Passes (add s v) (tail .head ∷ tail .rest)) c (f .second .0) (f .second .1 .0) (tail .passes);
-        means = tail .means
+        means = tail .means;
       }
   tail-on c s t text v f (inr on) =
       record {
@@ -159,7 +159,7 @@ module _ {A : Type 0} (limit : ℕ) (add : A → ℕ → A) (first second : A �
         rest = [];
         parts = record { front = f .front; back = f .back; whole = f .whole; first = f .first; second = ended (Exactly (41 ∷ [])) (t ≡ add s v) (f .back) on };
         passes = kept-three (first s v ≡ false) (second s v ≡ false) (Unit {0}) c (f .second .0) (f .second .1 .0) (kept-fact (Unit {0}) c tt);
-        means = on .second .0
+        means = on .second .0;
       }
 
   tail-to : (c : Care) (s t : A) (text : List ℕ) → Via Numbers (Tested s) c t text → Tail c s t text
@@ -184,7 +184,7 @@ module _ {A : Type 0} (limit : ℕ) (add : A → ℕ → A) (first second : A �
         rest = tail .rest;
         parts = followed-map _ _ _ _ text (spaced-shaped c limit (tail .head ∷ tail .rest)) (λ p e. e) (tail .parts);
         passes = tt;
-        means = tail .means
+        means = tail .means;
       }
 
   onward-shaped : (c : Care) (s t : A) (piece : List ℕ) → Onward s c t piece → Onward s shape t piece
@@ -242,44 +242,44 @@ module _ {A : Type 0} (limit : ℕ) (add : A → ℕ → A) (first second : A �
       ap (λ p. isByte 41 (nth (p ++ rest) 0)) (f .whole) ∙ ap (λ p. isByte 41 (nth p 0)) (append-assoc (f .front) (f .back) rest) ∙ starts-digit c limit (v .value) (f .front) (f .back ++ rest) (f .first)
 
   module _ (named : (at : ℕ) (s : A) (v : ℕ) → AtByte (fault at s v) (λ _. ⊥)) (named2 : (at : ℕ) (s : A) (v : ℕ) → AtByte (fault2 at s v) (λ _. ⊥)) where
-    onward-agrees : (next : List ℕ → ℕ → Result (A × ℕ) Fault) (s : A) → Agrees next (λ c t. Tail c s t) (λ _. Unit {0}) → Agrees (onward next s) (Onward s) (λ _. Unit {0})
+    onward-agrees : (next : List ℕ → ℕ → Result (A × ℕ) Fault) (s : A) → Agrees next (λ c t. Tail c s t) Any → Agrees (onward next s) (Onward s) Any
     onward-agrees next s a =
-        agrees-choice 32 (λ text at. andThen (passAt 32 text at) (next text)) (λ text at. andThen (passAt 41 text at) (λ m. Ok (s, m))) _ _ (λ _. Unit {0})
-        (byte-then 32 next (λ c t. Tail c s t) (λ _. Unit {0}) a)
-        (byte-then 41 (λ text at. Ok (s, at)) (λ c t p. (t ≡ s) × (p ≡ [])) (λ _. Unit {0}) (agrees-done s (λ _. Unit {0})))
+        agrees-choice 32 (λ text at. andThen (passAt 32 text at) (next text)) (λ text at. andThen (passAt 41 text at) (λ m. Ok (s, m))) _ _ Any
+        (byte-then 32 next (λ c t. Tail c s t) Any a)
+        (byte-then 41 (λ text at. Ok (s, at)) (λ c t p. (t ≡ s) × (p ≡ [])) Any (agrees-done s Any))
         (λ c t piece rest f. ap (λ p. isByte 32 (nth (p ++ rest) 0)) (f .whole ∙ ap (λ p. p ++ f .back) (f .first)))
         (λ c t piece rest f. ap (λ p. isByte 32 (nth (p ++ rest) 0)) (f .whole ∙ ap (λ p. p ++ f .back) (f .first)))
 
     -- where one of the tests refuses the number, no piece keeps the rules
-    refused-agrees : (next : List ℕ → ℕ → Result (A × ℕ) Fault) (at : ℕ) (s : A) (v : ℕ) → (first s v ≡ true) ⊎ (second s v ≡ true) → Agrees (tested next at s v) (Tested s v) (λ _. Unit {0})
+    refused-agrees : (next : List ℕ → ℕ → Result (A × ℕ) Fault) (at : ℕ) (s : A) (v : ℕ) → (first s v ≡ true) ⊎ (second s v ≡ true) → Agrees (tested next at s v) (Tested s v) Any
     refused-agrees next at s v (inl e) =
-        agrees-same (λ text place. Err (fault at s v)) _ _ (λ _. Unit {0}) (λ text place. ap (λ b. cond b (Err (fault at s v)) (cond (second s v) (Err (fault2 at s v)) (onward next (add s v) text place))) (sym e))
-        (agrees-never (fault at s v) (named at s v) (Tested s v) (λ _. Unit {0}) (tested-shaped s v) (tested-sample s v) (λ c t piece h. kept-map c (λ f. clash (first s v) e f) (h .0)))
+        agrees-same (λ text place. Err (fault at s v)) _ _ Any (λ text place. ap (λ b. cond b (Err (fault at s v)) (cond (second s v) (Err (fault2 at s v)) (onward next (add s v) text place))) (sym e))
+        (agrees-never (fault at s v) (named at s v) (Tested s v) Any (tested-shaped s v) (tested-sample s v) (λ c t piece h. kept-map c (λ f. clash (first s v) e f) (h .0)))
     refused-agrees next at s v (inr e) =
-        agrees-unless (fault at s v) (named at s v) (λ text place. cond (second s v) (Err (fault2 at s v)) (onward next (add s v) text place)) (λ c t piece. Kept c (second s v ≡ false) × Onward (add s v) c t piece) (λ _. Unit {0})
-        (agrees-same (λ text place. Err (fault2 at s v)) _ _ (λ _. Unit {0}) (λ text place. ap (λ b. cond b (Err (fault2 at s v)) (onward next (add s v) text place)) (sym e))
-        (agrees-never (fault2 at s v) (named2 at s v) (λ c t piece. Kept c (second s v ≡ false) × Onward (add s v) c t piece) (λ _. Unit {0}) (λ c t piece h. (tt, onward-shaped c (add s v) t piece (h .1))) (let x = tested-sample s v in (x .0, x .1, x .2 .1)) (λ c t piece h. kept-map c (λ f. clash (second s v) e f) (h .0))))
+        agrees-unless (fault at s v) (named at s v) (λ text place. cond (second s v) (Err (fault2 at s v)) (onward next (add s v) text place)) (λ c t piece. Kept c (second s v ≡ false) × Onward (add s v) c t piece) Any
+        (agrees-same (λ text place. Err (fault2 at s v)) _ _ Any (λ text place. ap (λ b. cond b (Err (fault2 at s v)) (onward next (add s v) text place)) (sym e))
+        (agrees-never (fault2 at s v) (named2 at s v) (λ c t piece. Kept c (second s v ≡ false) × Onward (add s v) c t piece) Any (λ c t piece h. (tt, onward-shaped c (add s v) t piece (h .1))) (let x = tested-sample s v in (x .0, x .1, x .2 .1)) (λ c t piece h. kept-map c (λ f. clash (second s v) e f) (h .0))))
         (first s v)
 
-    tested-agrees : (next : List ℕ → ℕ → Result (A × ℕ) Fault) (at : ℕ) (s : A) (v : ℕ) → Agrees next (λ c t. Tail c (add s v) t) (λ _. Unit {0}) → Agrees (tested next at s v) (Tested s v) (λ _. Unit {0})
+    tested-agrees : (next : List ℕ → ℕ → Result (A × ℕ) Fault) (at : ℕ) (s : A) (v : ℕ) → Agrees next (λ c t. Tail c (add s v) t) Any → Agrees (tested next at s v) (Tested s v) Any
     tested-agrees next at s v a =
-        agrees-unless (fault at s v) (named at s v) (λ text place. cond (second s v) (Err (fault2 at s v)) (onward next (add s v) text place)) (λ c t piece. Kept c (second s v ≡ false) × Onward (add s v) c t piece) (λ _. Unit {0})
-        (agrees-unless (fault2 at s v) (named2 at s v) (onward next (add s v)) (Onward (add s v)) (λ _. Unit {0}) (onward-agrees next (add s v) a) (second s v))
+        agrees-unless (fault at s v) (named at s v) (λ text place. cond (second s v) (Err (fault2 at s v)) (onward next (add s v) text place)) (λ c t piece. Kept c (second s v ≡ false) × Onward (add s v) c t piece) Any
+        (agrees-unless (fault2 at s v) (named2 at s v) (onward next (add s v)) (Onward (add s v)) Any (onward-agrees next (add s v) a) (second s v))
         (first s v)
 
     -- so many turns are enough: one turn is enough only where the tests refuse every number
     module _ (Enough : ℕ → A → Type 0) (enough-next : (n : ℕ) (s : A) (v : ℕ) → second s v ≡ false → Enough (suc (suc n)) s → Enough (suc n) (add s v)) (enough-last : (s : A) (v : ℕ) → Enough (suc zero) s → (first s v ≡ true) ⊎ (second s v ≡ true)) where
-      by-test : (next : List ℕ → ℕ → Result (A × ℕ) Fault) (at : ℕ) (s : A) (v : ℕ) (b : Bool) → second s v ≡ b → (second s v ≡ false → Agrees next (λ c t. Tail c (add s v) t) (λ _. Unit {0})) → Agrees (tested next at s v) (Tested s v) (λ _. Unit {0})
+      by-test : (next : List ℕ → ℕ → Result (A × ℕ) Fault) (at : ℕ) (s : A) (v : ℕ) (b : Bool) → second s v ≡ b → (second s v ≡ false → Agrees next (λ c t. Tail c (add s v) t) Any) → Agrees (tested next at s v) (Tested s v) Any
       by-test next at s v true e a = refused-agrees next at s v (inr e)
       by-test next at s v false e a = tested-agrees next at s v (a e)
 
-      turns-agree : (n : ℕ) (s : A) → ((at v : ℕ) → Agrees (tested (run n (add s v)) at s v) (Tested s v) (λ _. Unit {0})) → Agrees (run (suc n) s) (λ c t. Tail c s t) (λ _. Unit {0})
+      turns-agree : (n : ℕ) (s : A) → ((at v : ℕ) → Agrees (tested (run n (add s v)) at s v) (Tested s v) Any) → Agrees (run (suc n) s) (λ c t. Tail c s t) Any
       unfolding run
       turns-agree n s a =
-          agrees-as (run (suc n) s) (Via Numbers (Tested s)) (λ c t. Tail c s t) (λ _. Unit {0}) (λ c t text. tail-to c s t text) (λ c t text. tail-from c s t text)
-          (agrees-then (λ text at. numberAt text at limit) (λ at v. tested (run n (add s v)) at s v) Numbers (Tested s) NoDigit (λ _. Unit {0}) (number-agrees limit) a (λ c v t piece rest g x. tested-stops c s v t piece rest g))
+          agrees-as (run (suc n) s) (Via Numbers (Tested s)) (λ c t. Tail c s t) Any (λ c t text. tail-to c s t text) (λ c t text. tail-from c s t text)
+          (agrees-then (λ text at. numberAt text at limit) (λ at v. tested (run n (add s v)) at s v) Numbers (Tested s) NoDigit Any (number-agrees limit) a (λ c v t piece rest g x. tested-stops c s v t piece rest g))
 
-      run-agrees : (n : ℕ) (s : A) → Enough (suc n) s → Agrees (run (suc n) s) (λ c t. Tail c s t) (λ _. Unit {0})
+      run-agrees : (n : ℕ) (s : A) → Enough (suc n) s → Agrees (run (suc n) s) (λ c t. Tail c s t) Any
       run-agrees zero s h = turns-agree zero s (λ at v. refused-agrees (run zero (add s v)) at s v (enough-last s v h))
       run-agrees (suc n) s h = turns-agree (suc n) s (λ at v. by-test (run (suc n) (add s v)) at s v (second s v) refl (λ e. run-agrees n (add s v) (enough-next n s v e h)))
 
@@ -287,12 +287,12 @@ module _ {A : Type 0} (limit : ℕ) (add : A → ℕ → A) (first second : A �
       abbrev pub listed : ℕ → A → List ℕ → ℕ → Result (A × ℕ) Fault
       listed n s text at = andThen (passAt 40 text at) (λ m. cond (isByte 41 (nth text m)) (andThen (passAt 41 text m) (λ k. Ok (s, k))) (run (suc n) s text m))
 
-      pub list-agrees : (n : ℕ) (s : A) → Enough (suc n) s → Agrees (listed n s) (λ c t. Bracketed c s t) (λ _. Unit {0})
+      pub list-agrees : (n : ℕ) (s : A) → Enough (suc n) s → Agrees (listed n s) (λ c t. Bracketed c s t) Any
       list-agrees n s h =
-          agrees-as _ _ _ (λ _. Unit {0}) (λ c t text. bracketed-to c s t text) (λ c t text. bracketed-from c s t text)
-          (byte-then 40 _ _ (λ _. Unit {0})
-          (agrees-choice 41 (λ text at. andThen (passAt 41 text at) (λ k. Ok (s, k))) (run (suc n) s) _ _ (λ _. Unit {0})
-          (byte-then 41 (λ text at. Ok (s, at)) (λ c t p. (t ≡ s) × (p ≡ [])) (λ _. Unit {0}) (agrees-done s (λ _. Unit {0})))
+          agrees-as _ _ _ Any (λ c t text. bracketed-to c s t text) (λ c t text. bracketed-from c s t text)
+          (byte-then 40 _ _ Any
+          (agrees-choice 41 (λ text at. andThen (passAt 41 text at) (λ k. Ok (s, k))) (run (suc n) s) _ _ Any
+          (byte-then 41 (λ text at. Ok (s, at)) (λ c t p. (t ≡ s) × (p ≡ [])) Any (agrees-done s Any))
           (run-agrees n s h)
           (λ c t piece rest f. ap (λ p. isByte 41 (nth (p ++ rest) 0)) (f .whole ∙ ap (λ p. p ++ f .back) (f .first)))
           (λ c t piece rest tail. tail-no-bracket c s t piece rest tail)))

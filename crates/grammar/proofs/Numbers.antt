@@ -242,7 +242,7 @@ number-agrees limit =
 
 -- ten digits are no more than this
 limited-by : (at limit : ℕ) (p : ℕ × ℕ) (empty longer : Result (ℕ × ℕ) Fault) (a b : Bool) → andThen empty (λ q. cond (ltb limit (q .0)) (Err (Reading (Number at))) (Ok q)) ≡ empty → andThen longer (λ q. cond (ltb limit (q .0)) (Err (Reading (Number at))) (Ok q)) ≡ longer → ltb 9999999999 (p .0) ≡ false
-  → cond a empty (cond b longer (cond (ltb limit (p .0)) (Err (Reading (Number at))) (Ok p))) ≡ andThen (cond a empty (cond b longer (cond (ltb 9999999999 (p .0)) (Err (Reading (Number at))) (Ok p)))) (λ q. cond (ltb limit (q .0)) (Err (Reading (Number at))) (Ok q))
+    → cond a empty (cond b longer (cond (ltb limit (p .0)) (Err (Reading (Number at))) (Ok p))) ≡ andThen (cond a empty (cond b longer (cond (ltb 9999999999 (p .0)) (Err (Reading (Number at))) (Ok p)))) (λ q. cond (ltb limit (q .0)) (Err (Reading (Number at))) (Ok q))
 limited-by at limit p empty longer true b n m e = sym n
 limited-by at limit p empty longer false true n m e = sym m
 limited-by at limit p empty longer false false n m e = ap (λ t. andThen (cond t (Err (Reading (Number at))) (Ok p)) (λ q. cond (ltb limit (q .0)) (Err (Reading (Number at))) (Ok q))) (sym e)

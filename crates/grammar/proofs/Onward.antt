@@ -33,9 +33,9 @@ agrees-map : {X Y : Type 0} (f : X → Y) (P : List ℕ → ℕ → Result (X ×
 agrees-map f P G a =
     agrees-as _ (Via G (λ x c y piece. (y ≡ f x) × (piece ≡ []))) _ Any
     (λ c y piece v.
-      let parts = v .parts in
-      let same : parts .front ≡ piece = sym (parts .whole ∙ ap (λ t. parts .front ++ t) (parts .second .1) ∙ append-nil (parts .front)) in
-      (v .value, parts .second .0, subst (G c (v .value)) same (parts .first)))
+    let parts = v .parts in
+    let same : parts .front ≡ piece = sym (parts .whole ∙ ap (λ t. parts .front ++ t) (parts .second .1) ∙ append-nil (parts .front)) in
+    (v .value, parts .second .0, subst (G c (v .value)) same (parts .first)))
     (λ c y piece h. record { value = h .0; parts = record { front = piece; back = []; whole = sym (append-nil piece); first = h .2; second = (h .1, refl) } })
     (agrees-then P (λ at x text next. Ok (f x, next)) G (λ x c y piece. (y ≡ f x) × (piece ≡ [])) Any Any a (λ at x. agrees-done (f x) Any) (λ c x y piece rest h s. tt))
 
@@ -146,8 +146,7 @@ module _ {S : Type 0} (word : List ℕ) (spells : Care → S → List ℕ → Ty
       (record { front = h .front; back = h .back; whole = h .whole; first = h .first; second = atoms-lines n (m .atoms) (m .rules) a r c (h .back) l (h .second) })
 
 module _ {S : Type 0} (stampAt : List ℕ → ℕ → Result (S × ℕ) Fault) (word : List ℕ) (spells : Care → S → List ℕ → Type 0) (room : Room)
-  (forms : (stage : Stage) → Going stage → (atoms rules : ℕ) → Agrees (λ text at. formAt stampAt word text room (record { stage = stage; next = at; atoms = atoms; rules = rules })) (FormAt word spells room stage atoms rules) (λ _. Unit {0})) where
-
+    (forms : (stage : Stage) → Going stage → (atoms rules : ℕ) → Agrees (λ text at. formAt stampAt word text room (record { stage = stage; next = at; atoms = atoms; rules = rules })) (FormAt word spells room stage atoms rules) (λ _. Unit {0})) where
   onward-agrees : (next : Stage → ℕ → ℕ → List ℕ → ℕ → Result (Meaning S × ℕ) Fault) (G : Stage → ℕ → ℕ → Care → Meaning S → List ℕ → Type 0) → ((stage : Stage) → Going stage → (a r : ℕ) → Agrees (next stage a r) (G stage a r) Any) → (a r : ℕ) (line : Line S) → Agrees (onward next a r line) (Onward G a r line) Any
   onward-agrees next G h a r orderLine = h Atoms tt a r
   onward-agrees next G h a r (atomLine x) = agrees-map (withAtom x) (next Atoms (a + 1) r) (G Atoms (a + 1) r) (h Atoms tt (a + 1) r)

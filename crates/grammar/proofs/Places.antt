@@ -36,7 +36,7 @@ pub between-join : (text : List ℕ) (at mid next : ℕ) (p q : List ℕ) → Be
 between-join text at mid next p q a b =
     record {
       stands = a .stands ∙ ap (λ t. p ++ t) (b .stands) ∙ sym (append-assoc p q (drop next text));
-      place = omega (arith, a .place, b .place, length-append p q)
+      place = omega (arith, a .place, b .place, length-append p q);
     }
 
 -- nothing stands between a place and itself

@@ -23,7 +23,7 @@ use Rattle.text.specs.declared.reader.Stage.the-variants.{Start, Atoms, Rules, 
 use Rattle.grammar.specs.Pieces.{Care, Kept, Exactly, Followed}
 use Rattle.grammar.specs.Grammar.{OrderForm, AtomForm, RuleForm, Numbered, Declared, Body}
 use Rattle.grammar.specs.Agreement.{Agrees}
-use Rattle.grammar.proofs.Agreeing.{agrees-same, agrees-as, agrees-done, byte-then-at, word-then, word-to, word-from}
+use Rattle.grammar.proofs.Agreeing.{Any, agrees-same, agrees-as, agrees-done, byte-then-at, word-then, word-to, word-from}
 use Rattle.grammar.proofs.Choosing.{agrees-choice}
 use Rattle.grammar.proofs.Dispatch.{afterAtom, afterRule, afterVoid, afterEnd, start-same, rules-same, atoms-same}
 use Rattle.grammar.proofs.Formed.{Parts}
@@ -31,9 +31,6 @@ use Rattle.grammar.proofs.Forms.{RuleRest, rule-rest, rule-rest-agrees, VoidRe
 use Rattle.grammar.proofs.Lines.{AtomNext, LateForm, FormAt}
 use Rattle.grammar.proofs.Lists.{NoDigit, ended, unended, regroup, ungroup, followed-map}
 use Rattle.grammar.proofs.Rests.{Going}
-
-abbrev Any : List ℕ → Type 0
-Any rest = Unit {0}
 
 -- the parts of a rule and the end of its form, bracketed as the grammar has them
 abbrev Closing : Care → ℕ → Rule → List ℕ → Type 0
@@ -46,24 +43,24 @@ under A B C text f h = followed-map A B A C text (λ t a. a) f h
 parts-open : (c : Care) (atoms : ℕ) (r : Rule) (text : List ℕ) → Followed (Parts c atoms r) (Exactly closing) text → Closing c atoms r text
 parts-open c atoms r text h =
     under _ _ _ text (λ t g.
-      under _ _ _ t (λ u i.
-        under _ _ _ u (λ v j.
-          under _ _ _ v (λ w k. ungroup (Exactly space) (Body c atoms (r .negatives)) (Exactly closing) w k)
-          (ungroup (Body c atoms (r .positives)) (Followed (Exactly space) (Body c atoms (r .negatives))) (Exactly closing) v j))
-        (ungroup (Exactly space) (Followed (Body c atoms (r .positives)) (Followed (Exactly space) (Body c atoms (r .negatives)))) (Exactly closing) u i))
-      (ungroup (Declared c atoms (r .head)) (Followed (Exactly space) (Followed (Body c atoms (r .positives)) (Followed (Exactly space) (Body c atoms (r .negatives))))) (Exactly closing) t g))
+    under _ _ _ t (λ u i.
+    under _ _ _ u (λ v j.
+    under _ _ _ v (λ w k. ungroup (Exactly space) (Body c atoms (r .negatives)) (Exactly closing) w k)
+    (ungroup (Body c atoms (r .positives)) (Followed (Exactly space) (Body c atoms (r .negatives))) (Exactly closing) v j))
+    (ungroup (Exactly space) (Followed (Body c atoms (r .positives)) (Followed (Exactly space) (Body c atoms (r .negatives)))) (Exactly closing) u i))
+    (ungroup (Declared c atoms (r .head)) (Followed (Exactly space) (Followed (Body c atoms (r .positives)) (Followed (Exactly space) (Body c atoms (r .negatives))))) (Exactly closing) t g))
     (ungroup (Exactly space) (Followed (Declared c atoms (r .head)) (Followed (Exactly space) (Followed (Body c atoms (r .positives)) (Followed (Exactly space) (Body c atoms (r .negatives)))))) (Exactly closing) text h)
 
 parts-shut : (c : Care) (atoms : ℕ) (r : Rule) (text : List ℕ) → Closing c atoms r text → Followed (Parts c atoms r) (Exactly closing) text
 parts-shut c atoms r text h =
     regroup (Exactly space) (Followed (Declared c atoms (r .head)) (Followed (Exactly space) (Followed (Body c atoms (r .positives)) (Followed (Exactly space) (Body c atoms (r .negatives)))))) (Exactly closing) text
     (under _ _ _ text (λ t g.
-      regroup (Declared c atoms (r .head)) (Followed (Exactly space) (Followed (Body c atoms (r .positives)) (Followed (Exactly space) (Body c atoms (r .negatives))))) (Exactly closing) t
-      (under _ _ _ t (λ u i.
-        regroup (Exactly space) (Followed (Body c atoms (r .positives)) (Followed (Exactly space) (Body c atoms (r .negatives)))) (Exactly closing) u
-        (under _ _ _ u (λ v j.
-          regroup (Body c atoms (r .positives)) (Followed (Exactly space) (Body c atoms (r .negatives))) (Exactly closing) v
-          (under _ _ _ v (λ w k. regroup (Exactly space) (Body c atoms (r .negatives)) (Exactly closing) w k) j)) i)) g)) h)
+    regroup (Declared c atoms (r .head)) (Followed (Exactly space) (Followed (Body c atoms (r .positives)) (Followed (Exactly space) (Body c atoms (r .negatives))))) (Exactly closing) t
+    (under _ _ _ t (λ u i.
+    regroup (Exactly space) (Followed (Body c atoms (r .positives)) (Followed (Exactly space) (Body c atoms (r .negatives)))) (Exactly closing) u
+    (under _ _ _ u (λ v j.
+    regroup (Body c atoms (r .positives)) (Followed (Exactly space) (Body c atoms (r .negatives))) (Exactly closing) v
+    (under _ _ _ v (λ w k. regroup (Exactly space) (Body c atoms (r .negatives)) (Exactly closing) w k) j)) i)) g)) h)
 
 -- "rule ", "void " and "atom ", as they stand after the bracket
 abbrev ruleWord : List ℕ
@@ -104,10 +101,10 @@ module _ {S : Type 0} (stampAt : List ℕ → ℕ → Result (S × ℕ) Fault) (
       agrees-choice 114 (afterRule stampAt word room atoms rules at) _ RuleAfter (λ c y piece. VoidAfter c y piece ⊎ EndAfter c y piece) Any
       (word-then ruleWord (rule-rest S room atoms rules at) (RuleRest S room atoms rules) Any (rule-rest-agrees S room atoms rules at))
       (agrees-choice 118 (afterVoid stampAt word room atoms rules at) (afterEnd stampAt word room atoms rules) VoidAfter EndAfter Any
-        (word-then voidWord (void-rest S room atoms rules at) (VoidRest S room atoms rules) Any (void-rest-agrees S room atoms rules at))
-        (end-rest-agrees S room atoms rules)
-        (λ c y piece more f. first-byte 118 118 (111 ∷ 105 ∷ 100 ∷ 32 ∷ []) (VoidRest S room atoms rules c y) piece more f)
-        (λ c y piece more e. ap (λ t. isByte 118 (nth (t ++ more) 0)) (e .1)))
+      (word-then voidWord (void-rest S room atoms rules at) (VoidRest S room atoms rules) Any (void-rest-agrees S room atoms rules at))
+      (end-rest-agrees S room atoms rules)
+      (λ c y piece more f. first-byte 118 118 (111 ∷ 105 ∷ 100 ∷ 32 ∷ []) (VoidRest S room atoms rules c y) piece more f)
+      (λ c y piece more e. ap (λ t. isByte 118 (nth (t ++ more) 0)) (e .1)))
       (λ c y piece more f. first-byte 114 114 (117 ∷ 108 ∷ 101 ∷ 32 ∷ []) (RuleRest S room atoms rules c y) piece more f)
       no-rule
     where

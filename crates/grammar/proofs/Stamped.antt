@@ -28,14 +28,11 @@ use Rattle.text.specs.declared.aisles.Aisles.{Aisles}
 use Rattle.grammar.specs.Pieces.{Care, Kept, Exactly, Followed, Numeral, Spaced, Listed}
 use Rattle.grammar.specs.Stamps.{TickSpelt, PairSpelt, RouteSpelt, RisingFrom, withAisles}
 use Rattle.grammar.specs.Agreement.{Agrees}
-use Rattle.grammar.proofs.Agreeing.{Via, then-then, agrees-same, agrees-as, agrees-then, agrees-done, byte-then}
+use Rattle.grammar.proofs.Agreeing.{Any, Via, then-then, agrees-same, agrees-as, agrees-then, agrees-done, byte-then}
 use Rattle.grammar.proofs.Choosing.{kept-map}
 use Rattle.grammar.proofs.Lists.{NoDigit, ended, unended, run, adds, Passes, Bracketed, listed, list-agrees, kept-both, followed-map}
 use Rattle.grammar.proofs.Numbers.{number-agrees, number-limited}
 use Rattle.grammar.proofs.Turning.{tries-first, tries-stay, onward-same, open-same}
-
-abbrev Any : List ℕ → Type 0
-Any rest = Unit {0}
 
 abbrev Ticked : Care → ℕ → List ℕ → Type 0
 Ticked c v piece = Numeral c 4294967295 v piece

@@ -229,8 +229,7 @@ module _ {S : Type 0} (stampAt : List ℕ → ℕ → Result (S × ℕ) Fault) (
   whole n text at = andThen (lines stampAt word room n Start 0 0 text at) (λ p. ended (p .0) (p .1) (nth text (p .1)))
 
 module _ {S : Type 0} (stampAt : List ℕ → ℕ → Result (S × ℕ) Fault) (word : List ℕ) (spells : Care → S → List ℕ → Type 0) (room : Room)
-  (forms : (stage : Stage) → Going stage → (atoms rules : ℕ) → Agrees (λ text at. formAt stampAt word text room (record { stage = stage; next = at; atoms = atoms; rules = rules })) (FormAt word spells room stage atoms rules) (λ _. Unit {0})) where
-
+    (forms : (stage : Stage) → Going stage → (atoms rules : ℕ) → Agrees (λ text at. formAt stampAt word text room (record { stage = stage; next = at; atoms = atoms; rules = rules })) (FormAt word spells room stage atoms rules) (λ _. Unit {0})) where
   -- the book of a text is that of its forms, where there may be more of them than bytes
   pub book-whole : (text : List ℕ) (n : ℕ) → length text < n → bookAt stampAt word text room ≡ andThen (whole stampAt word room n text 0) (λ p. Ok (p .0))
   book-whole text n l =

@@ -74,7 +74,7 @@ module _ {S : Type 0} where
         sample = (m, [], (refl, refl));
         shared = λ text other at. shared-from text other at (ended m at (nth text at)) (ended m at (nth other at)) (ended-reaches m at (nth text at)) (λ same. ap (ended m at) (sym (same at (omega arith))));
         seen = λ text at. ended-seen m text at (nth text at);
-        reads = λ c k piece rest text at. ended-reads m k c piece rest text at
+        reads = λ c k piece rest text at. ended-reads m k c piece rest text at;
       }
 
   -- an answer's book
@@ -125,8 +125,7 @@ front-take : (text : List ℕ) (k : ℕ) (piece : List ℕ) → Between text 0 k
 front-take text k piece b = sym (ap (take k) (b .stands) ∙ take-at piece (drop k text) k (omega (arith, b .place)))
 
 module _ {S : Type 0} (stampAt : List ℕ → ℕ → Result (S × ℕ) Fault) (word : List ℕ) (spells : Care → S → List ℕ → Type 0) (room : Room)
-  (forms : (stage : Stage) → Going stage → (atoms rules : ℕ) → Agrees (λ text at. formAt stampAt word text room (record { stage = stage; next = at; atoms = atoms; rules = rules })) (FormAt word spells room stage atoms rules) (λ _. Unit {0})) where
-
+    (forms : (stage : Stage) → Going stage → (atoms rules : ℕ) → Agrees (λ text at. formAt stampAt word text room (record { stage = stage; next = at; atoms = atoms; rules = rules })) (FormAt word spells room stage atoms rules) (λ _. Unit {0})) where
   -- the forms of a book, n at most
   abbrev Forms : ℕ → Care → Meaning S → List ℕ → Type 0
   Forms n = Via (Lines word spells room n Start 0 0) Ended
@@ -177,9 +176,10 @@ module _ {S : Type 0} (stampAt : List ℕ → ℕ → Result (S × ℕ) Fault) (
   pub book-viable : (text : List ℕ) (k : ℕ) → bookAt stampAt word text room ≡ Err (Reading (Byte k)) → (k ≤ length text) × ((more : List ℕ) × (m : Meaning S) × Spells word spells shape m (take k text ++ more))
   book-viable text k e =
       let n = length text + 1 in
-      let (piece, more, m, b, h) = subst (λ r. Seen (Forms n) r text 0) (whole-fault text n (omega arith) (Reading (Byte k)) e) (whole-agrees n .seen text 0) in
-      (between-within text 0 k piece b (omega arith),
-        (more, m, rest-spells word spells room shape m (take k text ++ more) (subst (λ t. Rest word spells room Start 0 0 shape m (t ++ more)) (front-take text k piece b) (forms-rest n shape m (piece ++ more) h))))
+      let (piece, more, m, b, h) = subst (λ r. Seen (Forms n) r text 0) (whole-fault text n (omega arith) (Reading (Byte k)) e) (whole-agrees n .seen text 0) in (
+        between-within text 0 k piece b (omega arith),
+        (more, m, rest-spells word spells room shape m (take k text ++ more) (subst (λ t. Rest word spells room Start 0 0 shape m (t ++ more)) (front-take text k piece b) (forms-rest n shape m (piece ++ more) h))),
+      )
 
   -- a byte is refused whatever follows it
   pub book-shared : (text other : List ℕ) (k : ℕ) → bookAt stampAt word text room ≡ Err (Reading (Byte k)) → Same text other k → bookAt stampAt word other room ≡ Err (Reading (Byte k))

@@ -7,4 +7,3 @@ pub mod Filled
 pub mod Verdict
 pub mod Laid
 pub mod Aisled
-pub mod ReadsBack

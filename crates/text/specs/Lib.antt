@@ -11,4 +11,3 @@ pub mod Reads
 pub mod Written
 pub mod Spelt
 pub mod Orders
-pub mod ReadBack

@@ -5,7 +5,6 @@ pub mod counts;
 mod form;
 mod forms;
 mod kind;
-pub mod laws;
 mod lists;
 mod numbers;
 pub mod order;

@@ -7,5 +7,5 @@ returns c =
     record {
       of-ticks = (canonical-is-unchanged ticks lawful-ticks, answer-is-its-own ticks lawful-ticks);
       of-routes = (canonical-is-unchanged routes lawful-routes, answer-is-its-own routes lawful-routes);
-      of-pairs = (canonical-is-unchanged pairs lawful-pairs, answer-is-its-own pairs lawful-pairs)
+      of-pairs = (canonical-is-unchanged pairs lawful-pairs, answer-is-its-own pairs lawful-pairs);
     }
