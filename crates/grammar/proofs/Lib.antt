@@ -21,3 +21,4 @@ pub mod Dispatch
 pub mod Aisled
 pub mod Staged
 pub mod Laws
+pub mod Examples

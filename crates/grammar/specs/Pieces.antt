@@ -3,6 +3,7 @@ use Prim.Native.Nat.{ℕ, _≤_}
 use mathlib.Core.List.{List, [], _∷_, _++_}
 use mathlib.Core.Path.{_≡_}
 use lib.ListN.{length, getD}
+use lib.Chars.{codes}
 use Rattle.std.specs.Reads.{Digits, value}
 
 -- how much of the rules a text keeps:
@@ -50,8 +51,8 @@ pub record Numeral (c : Care) (limit n : ℕ) (text : List ℕ) : Type 0 where
 abbrev pub Spaced : Care → ℕ → List ℕ → List ℕ → Type 0
 Spaced c limit [] text = Exactly [] text
 Spaced c limit (n ∷ []) text = Numeral c limit n text
-Spaced c limit (n ∷ m ∷ ns) text = Followed (Numeral c limit n) (Followed (Exactly (32 ∷ [])) (Spaced c limit (m ∷ ns))) text
+Spaced c limit (n ∷ m ∷ ns) text = Followed (Numeral c limit n) (Followed (Exactly (codes " ")) (Spaced c limit (m ∷ ns))) text
 
 -- numbers in brackets
 abbrev pub Listed : Care → ℕ → List ℕ → List ℕ → Type 0
-Listed c limit ns = Followed (Exactly (40 ∷ [])) (Followed (Spaced c limit ns) (Exactly (41 ∷ [])))
+Listed c limit ns = Followed (Exactly (codes "(")) (Followed (Spaced c limit ns) (Exactly (codes ")")))

@@ -3,6 +3,7 @@ use Prim.Native.Nat.{ℕ, _+_, _*_, _^_, _<_, _≤_}
 use mathlib.Core.List.{List, [], _∷_}
 use mathlib.Core.Path.{_≡_}
 use lib.Bits.{bitOr}
+use lib.Chars.{codes}
 use Rattle.stamps.specs.declared.tick.Tick.{Tick}
 use Rattle.stamps.specs.declared.route.Route.{Route}
 use Rattle.stamps.specs.declared.then.Then.{Then}
@@ -15,7 +16,7 @@ TickSpelt c t = Numeral c 4294967295 (t .0)
 -- two ticks in brackets
 abbrev pub PairSpelt : Care → Then Tick Tick → List ℕ → Type 0
 PairSpelt c p =
-    Followed (Exactly (40 ∷ [])) (Followed (TickSpelt c (p .first)) (Followed (Exactly (32 ∷ [])) (Followed (TickSpelt c (p .second)) (Exactly (41 ∷ [])))))
+    Followed (Exactly (codes "(")) (Followed (TickSpelt c (p .first)) (Followed (Exactly (codes " ")) (Followed (TickSpelt c (p .second)) (Exactly (codes ")")))))
 
 -- each number is the least one or more, and below those after it
 abbrev pub RisingFrom : ℕ → List ℕ → Type 0

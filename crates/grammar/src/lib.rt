@@ -1,6 +1,7 @@
 // The grammar of the text, stated apart from the reader, and the laws that tie reading and writing to it.
 // Each function below computes nothing: its contract is a theorem about the definitions of this crate's specs/,
 // for each of the three kinds of stamps that have a word.
+ghost use Rattle.grammar.specs.Examples.{ExamplesHold};
 ghost use Rattle.grammar.specs.Notations.{ticks, routes, pairs};
 ghost use Rattle.grammar.specs.Theorems.{ReadingIsTheGrammar, WrittenIsReadBack, AcceptedComesBack, CanonicalIsUnchanged, AnswerIsItsOwn, RefusedAtTheFirstByte};
 
@@ -37,4 +38,9 @@ pub fn refused_at_the_first_byte()
     ensures of_ticks { λ _. ⌜ RefusedAtTheFirstByte ticks ⌝ }
     ensures of_routes { λ _. ⌜ RefusedAtTheFirstByte routes ⌝ }
     ensures of_pairs { λ _. ⌜ RefusedAtTheFirstByte pairs ⌝ }
+{}
+
+// What the definitions say of small texts.
+pub fn examples_hold()
+    ensures { λ _. ⌜ ExamplesHold ⌝ }
 {}

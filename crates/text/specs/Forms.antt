@@ -4,6 +4,7 @@ use mathlib.Core.Bool.{Bool, true, false, cond}
 use mathlib.Core.List.{List, [], _∷_}
 use lib.Dec.{eqb, leb}
 use lib.ListN.{drop}
+use lib.Chars.{codes}
 use Rattle.std.specs.Finite.{nth}
 use Rattle.std.specs.Options.{mapped}
 use Rattle.std.specs.declared.option.Option.{Option}
@@ -48,17 +49,17 @@ abbrev pub lined : {S : Type 0} → Result (Form S × ℕ) Fault → Result (Lin
 lined (Ok p) = Ok (lineOf (p .0), p .1)
 lined (Err e) = Err e
 
--- ")" and the end of the line
+-- how a form ends, and its line
 abbrev pub closing : List ℕ
-closing = 41 ∷ 10 ∷ []
+closing = codes ")\n"
 
--- "in "
+-- the word of a reading
 abbrev pub inWord : List ℕ
-inWord = 105 ∷ 110 ∷ 32 ∷ []
+inWord = codes "in "
 
--- "out "
+-- the word of any other atom
 abbrev pub outWord : List ℕ
-outWord = 111 ∷ 117 ∷ 116 ∷ 32 ∷ []
+outWord = codes "out "
 
 -- the number that must come next
 abbrev pub nextNumber : List ℕ → ℕ → ℕ → Result ℕ Fault

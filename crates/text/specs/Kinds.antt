@@ -4,30 +4,31 @@ use mathlib.Core.Bool.{Bool, true, false, cond, _&&_}
 use mathlib.Core.List.{List, [], _∷_}
 use lib.Dec.{eqb}
 use lib.ListN.{drop}
+use lib.Chars.{codes}
 use Rattle.std.specs.declared.option.Option.{Option}
 use Rattle.std.specs.declared.option.Option.the-variants.{Some, None}
 use Rattle.text.specs.declared.kind.Kind.{Kind}
 use Rattle.text.specs.declared.kind.Kind.the-variants.{Order, Atom, Rule, Void, End}
 
--- "(order "
+-- how an order form begins
 abbrev pub orderOpening : List ℕ
-orderOpening = 40 ∷ 111 ∷ 114 ∷ 100 ∷ 101 ∷ 114 ∷ 32 ∷ []
+orderOpening = codes "(order "
 
--- "(atom "
+-- how an atom form begins
 abbrev pub atomOpening : List ℕ
-atomOpening = 40 ∷ 97 ∷ 116 ∷ 111 ∷ 109 ∷ 32 ∷ []
+atomOpening = codes "(atom "
 
--- "(rule "
+-- how a rule form begins
 abbrev pub ruleOpening : List ℕ
-ruleOpening = 40 ∷ 114 ∷ 117 ∷ 108 ∷ 101 ∷ 32 ∷ []
+ruleOpening = codes "(rule "
 
--- "(void "
+-- how the form of a vacant number begins
 abbrev pub voidOpening : List ℕ
-voidOpening = 40 ∷ 118 ∷ 111 ∷ 105 ∷ 100 ∷ 32 ∷ []
+voidOpening = codes "(void "
 
--- "(end)"
+-- how the end form begins
 abbrev pub endOpening : List ℕ
-endOpening = 40 ∷ 101 ∷ 110 ∷ 100 ∷ 41 ∷ []
+endOpening = codes "(end)"
 
 -- whether the bytes begin with a word
 abbrev pub begins : List ℕ → List ℕ → Bool

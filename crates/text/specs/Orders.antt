@@ -2,6 +2,7 @@
 use Prim.Native.Nat.{ℕ, max}
 use mathlib.Core.Bool.{cond}
 use mathlib.Core.List.{List, [], _∷_}
+use lib.Chars.{codes}
 use Rattle.std.specs.declared.option.Option.{Option}
 use Rattle.std.specs.declared.option.Option.the-variants.{Some, None}
 use Rattle.text.specs.Kinds.{begins}
@@ -9,17 +10,17 @@ use Rattle.text.specs.Words.{agreesTo}
 use Rattle.text.specs.declared.order.Word.{Word}
 use Rattle.text.specs.declared.order.Word.the-variants as word
 
--- "(order ti"
+-- as far as no other order form goes
 abbrev pub tickOrder : List ℕ
-tickOrder = 40 ∷ 111 ∷ 114 ∷ 100 ∷ 101 ∷ 114 ∷ 32 ∷ 116 ∷ 105 ∷ []
+tickOrder = codes "(order ti"
 
--- "(order r"
+-- the same of routes
 abbrev pub routeOrder : List ℕ
-routeOrder = 40 ∷ 111 ∷ 114 ∷ 100 ∷ 101 ∷ 114 ∷ 32 ∷ 114 ∷ []
+routeOrder = codes "(order r"
 
--- "(order th"
+-- the same of pairs of ticks
 abbrev pub thenOrder : List ℕ
-thenOrder = 40 ∷ 111 ∷ 114 ∷ 100 ∷ 101 ∷ 114 ∷ 32 ∷ 116 ∷ 104 ∷ []
+thenOrder = codes "(order th"
 
 -- the word, told by as many bytes as keep it from the others
 abbrev pub wordOf : List ℕ → Option Word

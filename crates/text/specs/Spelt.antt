@@ -4,6 +4,7 @@ use mathlib.Core.Bool.{Bool, cond}
 use mathlib.Core.List.{List, [], _∷_, _++_}
 use lib.Dec.{eqb}
 use lib.ListN.{length}
+use lib.Chars.{codes}
 use Rattle.std.specs.Finite.{nth}
 use Rattle.std.specs.Written.{decimal}
 use Rattle.std.specs.declared.option.Option.{Option}
@@ -20,17 +21,17 @@ unfoldable pub upTo : (ℕ → List ℕ) → ℕ → List ℕ
 upTo f zero = []
 upTo f (suc n) = upTo f n ++ f n
 
--- " "
+-- between parts
 abbrev pub space : List ℕ
-space = 32 ∷ []
+space = codes " "
 
--- "("
+-- how a list or a pair begins
 abbrev pub opening : List ℕ
-opening = 40 ∷ []
+opening = codes "("
 
--- ")"
+-- how a list or a pair ends
 abbrev pub shutting : List ℕ
-shutting = 41 ∷ []
+shutting = codes ")"
 
 -- a number of a list, after a space unless it is the first
 abbrev pub item : ℕ → Option ℕ → List ℕ
@@ -57,9 +58,9 @@ aisleText aisles k = cond (eqb (aisles / 2 ^ k % 2) 1) (cond (eqb (aisles % 2 ^ 
 abbrev pub routeText : Route → List ℕ
 routeText r = opening ++ upTo (aisleText (r .aisles)) 64 ++ shutting
 
--- " in " or " out "
+-- a reading, or any other atom, between its number and its stamp
 abbrev pub kindText : Bool → List ℕ
-kindText reading = cond reading (32 ∷ 105 ∷ 110 ∷ 32 ∷ []) (32 ∷ 111 ∷ 117 ∷ 116 ∷ 32 ∷ [])
+kindText reading = cond reading (codes " in ") (codes " out ")
 
 -- (atom N K S)
 abbrev pub atomText : {S : Type 0} → (S → List ℕ) → ℕ → Option (Atom S) → List ℕ
@@ -72,9 +73,9 @@ ruleText k None = voidOpening ++ decimal k ++ closing
 ruleText k (Some r) =
     ruleOpening ++ decimal k ++ space ++ decimal (r .head) ++ space ++ listText (r .positives) ++ space ++ listText (r .negatives) ++ closing
 
--- "(end)" and the end of its line
+-- the end form
 abbrev pub endText : List ℕ
-endText = 40 ∷ 101 ∷ 110 ∷ 100 ∷ 41 ∷ 10 ∷ []
+endText = codes "(end)\n"
 
 -- the line of an atom number
 abbrev pub atomLineOf : {S : Type 0} → (S → List ℕ) → Meaning S → ℕ → List ℕ

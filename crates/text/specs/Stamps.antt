@@ -4,6 +4,7 @@ use mathlib.Core.Bool.{Bool, true, false, cond}
 use mathlib.Core.List.{List, [], _∷_}
 use lib.Bits.{bitOr}
 use lib.Dec.{ltb}
+use lib.Chars.{codes}
 use Rattle.std.specs.declared.result.Result.{Result}
 use Rattle.std.specs.declared.result.Result.the-variants.{Ok, Err}
 use Rattle.books.specs.declared.fault.ReadFault.the-variants.{NotRising}
@@ -54,14 +55,14 @@ aislesAt text q = tries (oneAisle text) (noAisle q) 65
 abbrev pub routeAt : List ℕ → ℕ → Result (Route × ℕ) Fault
 routeAt text at = andThen (openAt text at) (λ q. andThen (aislesAt text q) (λ s. Ok (record { aisles = s .aisles }, s .next)))
 
--- "tick"
+-- the word of ticks
 abbrev pub tickWord : List ℕ
-tickWord = 116 ∷ 105 ∷ 99 ∷ 107 ∷ []
+tickWord = codes "tick"
 
--- "route"
+-- the word of routes
 abbrev pub routeWord : List ℕ
-routeWord = 114 ∷ 111 ∷ 117 ∷ 116 ∷ 101 ∷ []
+routeWord = codes "route"
 
--- "then"
+-- the word of pairs of ticks
 abbrev pub thenWord : List ℕ
-thenWord = 116 ∷ 104 ∷ 101 ∷ 110 ∷ []
+thenWord = codes "then"

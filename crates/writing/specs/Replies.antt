@@ -5,6 +5,7 @@ use mathlib.Core.List.{List, [], _∷_, _++_}
 use mathlib.Core.Path.{_≡_}
 use lib.Dec.{ltb, leb}
 use lib.ListN.{length, drop}
+use lib.Chars.{codes}
 use Rattle.std.specs.Written.{decimal}
 use Rattle.std.specs.declared.option.Option.{Option}
 use Rattle.std.specs.declared.option.Option.the-variants.{Some, None}
@@ -34,9 +35,9 @@ use Rattle.text.specs.Reads.{bookAt, roomOf}
 use Rattle.text.specs.Spelt.{bookText, space, tickText, routeText, pairText}
 use Rattle.writing.specs.Writes.{bookGap, writeAnswer}
 
--- "(no "
+-- how a refusal begins
 abbrev pub noOpening : List ℕ
-noOpening = 40 ∷ 110 ∷ 111 ∷ 32 ∷ []
+noOpening = codes "(no "
 
 -- one number, or rule and literal
 abbrev pub valuesText : Values → List ℕ
