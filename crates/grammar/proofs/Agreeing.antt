@@ -21,7 +21,7 @@ use Rattle.books.specs.declared.fault.Fault.the-variants.{Reading, Checking}
 use Rattle.text.specs.Bytes.{andThen, passAt, passIf, wrongAt}
 use Rattle.text.specs.Words.{passWord}
 use Rattle.grammar.specs.Pieces.{Care, shape, kept, plain, Kept, Exactly, Followed}
-use Rattle.grammar.specs.Agreement.{AtByte, Same, Shared, Between, Seen, ShapeOnly, Reads, Agrees}
+use Rattle.grammar.proofs.Agreement.{AtByte, Same, Shared, Between, Seen, ShapeOnly, Reads, Agrees}
 use Rattle.grammar.proofs.Places.{nth-front, drop-step, drop-past, between-join, between-none, between-one}
 
 -- whatever follows

@@ -24,7 +24,7 @@ use Rattle.text.specs.Words.{isByte}
 use Rattle.text.specs.declared.aisles.Aisles.{Aisles}
 use Rattle.grammar.specs.Pieces.{Care, Kept, Exactly, Followed, Numeral, Spaced, Listed}
 use Rattle.grammar.specs.Stamps.{RouteSpelt, RisingFrom, withAisles}
-use Rattle.grammar.specs.Agreement.{Agrees}
+use Rattle.grammar.proofs.Agreement.{Agrees}
 use Rattle.grammar.proofs.Agreeing.{Any, Via, then-then, agrees-same, agrees-as, agrees-then, agrees-done}
 use Rattle.grammar.proofs.Canonical.{list-within}
 use Rattle.grammar.proofs.Choosing.{kept-map}

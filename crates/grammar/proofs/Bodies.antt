@@ -24,7 +24,7 @@ use Rattle.text.specs.Words.{isByte}
 use Rattle.text.specs.declared.site.Site.{Site}
 use Rattle.grammar.specs.Pieces.{Care, Kept}
 use Rattle.grammar.specs.Grammar.{Body}
-use Rattle.grammar.specs.Agreement.{Agrees}
+use Rattle.grammar.proofs.Agreement.{Agrees}
 use Rattle.grammar.proofs.Agreeing.{Any, then-then, agrees-same, agrees-as}
 use Rattle.grammar.proofs.Choosing.{kept-map}
 use Rattle.grammar.proofs.Lists.{run, adds, Passes, Bracketed, listed, list-agrees, kept-both}

@@ -24,7 +24,7 @@ use Rattle.grammar.specs.Pieces.{Care, kept, plain, Exactly, Numeral, Spaced, 
 use Rattle.grammar.specs.Grammar.{Numbered, Declared, Body, AtomForm, RuleForm, AtomForms, RuleForms, Spells}
 use Rattle.grammar.specs.Stamps.{TickSpelt, PairSpelt, RouteSpelt}
 use Rattle.grammar.proofs.Canonical.{followed-by, followed-unique, numeral-canonical, numeral-unique, list-canonical, list-unique, up-to-same, up-to-first}
-use Rattle.grammar.proofs.Gaps.{Sound, Sounds, gapless-sound, sound-gapless}
+use Rattle.grammar.proofs.Gaps.{GaplessRule, GaplessRow, gap-rules, rules-gapless}
 use Rattle.grammar.proofs.Lists.{followed-map}
 
 -- what f gives of each thing and its number, one after another from number k on
@@ -94,7 +94,7 @@ module _ (k : ℕ) (r : Rule) where
   rule-text =
       append-nine ruleOpening (decimal k) space (decimal (r .head)) space (listText (r .positives)) space (listText (r .negatives)) closing
 
-  rule-canonical : (atoms : ℕ) → atoms ≤ 1024 → k < 1024 → Sound atoms r → RuleForm plain atoms k (Some r) (ruleText k (Some r))
+  rule-canonical : (atoms : ℕ) → atoms ≤ 1024 → k < 1024 → GaplessRule atoms r → RuleForm plain atoms k (Some r) (ruleText k (Some r))
   rule-canonical atoms a l s =
       subst (RuleForm plain atoms k (Some r)) (sym rule-text)
       (followed-by ruleOpening (decimal k ++ afterNumber) refl
@@ -118,7 +118,7 @@ module _ (k : ℕ) (r : Rule) where
       (λ t. followed-unique (listText (r .negatives)) closing t (body-unique atoms (r .negatives)) (exactly-unique closing)))))))) h
       ∙ sym rule-text
 
-rule-line-canonical : (atoms k : ℕ) (o : Option Rule) → atoms ≤ 1024 → k < 1024 → Sounds atoms o → RuleForm plain atoms k o (ruleText k o)
+rule-line-canonical : (atoms k : ℕ) (o : Option Rule) → atoms ≤ 1024 → k < 1024 → GaplessRow atoms o → RuleForm plain atoms k o (ruleText k o)
 rule-line-canonical atoms k None a l s =
     subst (RuleForm plain atoms k None) (sym (append-assoc voidOpening (decimal k) closing))
     (followed-by voidOpening (decimal k ++ closing) refl (followed-by (decimal k) closing (numbered-canonical k l) refl))
@@ -131,7 +131,7 @@ rule-line-unique atoms k None text h =
     ∙ sym (append-assoc voidOpening (decimal k) closing)
 rule-line-unique atoms k (Some r) text h = rule-unique k r atoms text h
 
-rules-canonical : (atoms k : ℕ) (os : List (Option Rule)) → atoms ≤ 1024 → k + length os ≤ 1024 → All (Sounds atoms) os → RuleForms plain atoms k os (linesFrom ruleText k os)
+rules-canonical : (atoms k : ℕ) (os : List (Option Rule)) → atoms ≤ 1024 → k + length os ≤ 1024 → All (GaplessRow atoms) os → RuleForms plain atoms k os (linesFrom ruleText k os)
 rules-canonical atoms k [] a l s = refl
 rules-canonical atoms k (o ∷ os) a l s =
     followed-by (ruleText k o) (linesFrom ruleText (k + 1) os) (rule-line-canonical atoms k o a (omega arith) (s .0))
@@ -142,9 +142,9 @@ rules-unique atoms k [] text h = h
 rules-unique atoms k (o ∷ os) text h =
     followed-unique (ruleText k o) (linesFrom ruleText (k + 1) os) text (rule-line-unique atoms k o) (rules-unique atoms (k + 1) os) h
 
-rule-line-sound : (atoms k : ℕ) (o : Option Rule) (text : List ℕ) → RuleForm kept atoms k o text → Sounds atoms o
-rule-line-sound atoms k None text h = tt
-rule-line-sound atoms k (Some r) text h =
+rule-line-gapless : (atoms k : ℕ) (o : Option Rule) (text : List ℕ) → RuleForm kept atoms k o text → GaplessRow atoms o
+rule-line-gapless atoms k None text h = tt
+rule-line-gapless atoms k (Some r) text h =
     let head = h .second .second .second in
     let positives = head .second .second in
     let negatives = positives .second .second in
@@ -156,9 +156,9 @@ rule-line-sound atoms k (Some r) text h =
       negatives = negatives .first .declared;
     }
 
-rules-sound : (atoms k : ℕ) (os : List (Option Rule)) (text : List ℕ) → RuleForms kept atoms k os text → All (Sounds atoms) os
+rules-sound : (atoms k : ℕ) (os : List (Option Rule)) (text : List ℕ) → RuleForms kept atoms k os text → All (GaplessRow atoms) os
 rules-sound atoms k [] text h = tt
-rules-sound atoms k (o ∷ os) text h = (rule-line-sound atoms k o (h .front) (h .first), rules-sound atoms (k + 1) os (h .back) (h .second))
+rules-sound atoms k (o ∷ os) text h = (rule-line-gapless atoms k o (h .front) (h .first), rules-sound atoms (k + 1) os (h .back) (h .second))
 
 pub numeral-plain-kept : (limit n : ℕ) (text : List ℕ) → Numeral plain limit n text → Numeral kept limit n text
 numeral-plain-kept limit n text h = record { digits = h .digits; some = h .some; few = h .few; means = h .means; within = h .within; plainly = tt }
@@ -277,7 +277,7 @@ module _ {S : Type 0} (word : List ℕ) (spells : Care → S → List ℕ → Ty
       subst (Spells word spells plain m) (sym (book-text m))
       (followed-by (orderOpening ++ (word ++ closing)) (lines m) (followed-by orderOpening (word ++ closing) refl (followed-by word closing refl refl))
       (followed-by (linesFrom atomLine 0 (m .atoms)) (rest m) (atoms-canonical s 0 (m .atoms) (omega arith) h)
-      (followed-by (linesFrom ruleText 0 (m .rules)) endText (rules-canonical (length (m .atoms)) 0 (m .rules) small (omega arith) (gapless-sound m e)) refl)))
+      (followed-by (linesFrom ruleText 0 (m .rules)) endText (rules-canonical (length (m .atoms)) 0 (m .rules) small (omega arith) (gap-rules m e)) refl)))
 
   -- and no other text does
   pub book-unique : ((s : S) (text : List ℕ) → spells plain s text → text ≡ spelt s) → (m : Meaning S) (text : List ℕ) → Spells word spells plain m text → text ≡ bookText word spelt m
@@ -302,7 +302,7 @@ module _ {S : Type 0} (word : List ℕ) (spells : Care → S → List ℕ → Ty
   pub spelt-gapless : (m : Meaning S) (text : List ℕ) → Spells word spells kept m text → length (m .atoms) ≤ 1024 → length (m .rules) ≤ 1024 → bookGap m ≡ None
   spelt-gapless m text h a b =
       let ruled = h .second .second in
-      sound-gapless m a b (rules-sound (length (m .atoms)) 0 (m .rules) (ruled .front) (ruled .first))
+      rules-gapless m a b (rules-sound (length (m .atoms)) 0 (m .rules) (ruled .front) (ruled .first))
 
   atom-plain-kept : ((s : S) (text : List ℕ) → spells plain s text → spells kept s text) → (i : ℕ) (a : Atom S) (text : List ℕ) → AtomForm spells plain i a text → AtomForm spells kept i a text
   atom-plain-kept s i a text h =

@@ -14,7 +14,7 @@ use Rattle.std.specs.declared.result.Result.the-variants.{Ok, Err}
 use Rattle.books.specs.declared.fault.Fault.{Fault}
 use Rattle.text.specs.Words.{isByte}
 use Rattle.grammar.specs.Pieces.{Care, shape, kept, plain, Kept}
-use Rattle.grammar.specs.Agreement.{AtByte, Same, Shared, Seen, Reads, Agrees}
+use Rattle.grammar.proofs.Agreement.{AtByte, Same, Shared, Seen, Reads, Agrees}
 use Rattle.grammar.proofs.Agreeing.{at-byte-map, at-byte-both, not-at-byte, Reaches, seen-reaches, same-below, agrees-if, agrees-same, agrees-as}
 use Rattle.grammar.proofs.Places.{nth-front}
 

@@ -32,7 +32,7 @@ zeros-read = refl
 
 zeros-not-plain : SpeltBy ticks plain two zeros → ⊥
 zeros-not-plain h =
-    let lengths : length bare ≡ length zeros = ap length (sym two-written ∙ canonical-is-unchanged ticks lawful-ticks zeros two h) in
+    let lengths : length bare ≡ length zeros = ap length (sym two-written ∙ canonical-is-unchanged ticks lawful-ticks zeros two h .written) in
     absurd (omega (arith, lengths))
 
 bare-plain : SpeltBy ticks plain two bare

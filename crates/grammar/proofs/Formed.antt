@@ -26,7 +26,7 @@ use Rattle.text.specs.Words.{passWord, isByte}
 use Rattle.text.specs.declared.site.Site.{Site}
 use Rattle.grammar.specs.Pieces.{Care, Kept, Exactly, Followed, Numeral}
 use Rattle.grammar.specs.Grammar.{Numbered, Declared, Body}
-use Rattle.grammar.specs.Agreement.{Agrees}
+use Rattle.grammar.proofs.Agreement.{Agrees}
 use Rattle.grammar.proofs.Agreeing.{Any, Via, then-then, agrees-same, agrees-as, agrees-then, agrees-done, agrees-if, byte-then, word-then}
 use Rattle.grammar.proofs.Bodies.{body-agrees}
 use Rattle.grammar.proofs.Choosing.{kept-map, agrees-choice, agrees-unless}

@@ -23,7 +23,7 @@ use Rattle.text.specs.declared.reader.Room.{Room}
 use Rattle.text.specs.declared.site.Site.{Site}
 use Rattle.grammar.specs.Pieces.{Care, Kept, Exactly, Followed}
 use Rattle.grammar.specs.Grammar.{Numbered, Declared, Body}
-use Rattle.grammar.specs.Agreement.{Agrees}
+use Rattle.grammar.proofs.Agreement.{Agrees}
 use Rattle.grammar.proofs.Agreeing.{Any, Via, agrees-as, agrees-then, agrees-done, byte-then, word-then, word-to, word-from}
 use Rattle.grammar.proofs.Choosing.{kept-map, agrees-unless}
 use Rattle.grammar.proofs.Formed.{Parts, kind-agrees, numbered-then, rule-agrees}

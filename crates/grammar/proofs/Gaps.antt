@@ -25,7 +25,7 @@ use Rattle.writing.proofs.Gapless.{small-atoms, small-rules, few-everywhere}
 use Rattle.writing.specs.Writes.{missing, literalGap, ruleGap, bookGap}
 
 -- a rule that keeps the limits in a book of so many atoms
-pub record Sound (atoms : ℕ) (r : Rule) : Type 0 where
+pub record GaplessRule (atoms : ℕ) (r : Rule) : Type 0 where
   pub declared : r .head < atoms
   pub fewPositives : length (r .positives) ≤ 6
   pub fewNegatives : length (r .negatives) ≤ 6
@@ -33,9 +33,9 @@ pub record Sound (atoms : ℕ) (r : Rule) : Type 0 where
   pub negatives : All (λ n. n < atoms) (r .negatives)
 
 -- a vacant number keeps them
-abbrev pub Sounds : ℕ → Option Rule → Type 0
-Sounds atoms None = Unit {0}
-Sounds atoms (Some r) = Sound atoms r
+abbrev pub GaplessRow : ℕ → Option Rule → Type 0
+GaplessRow atoms None = Unit {0}
+GaplessRow atoms (Some r) = GaplessRule atoms r
 
 -- no fault comes of a choice only where the choice is the one without it
 passes : {X : Type 0} (b : Bool) (x : X) (o : Option X) → cond b o (Some x) ≡ None → (b ≡ true) × (o ≡ None)
@@ -101,8 +101,8 @@ module _ {S : Type 0} (m : Meaning S) where
       (Some (HeadMissing k))))
       o
 
-  literals-sound : (k : ℕ) (r : Rule) → ruleAt m k ≡ Some r → firstBelow (length (r .positives) + length (r .negatives)) (literalGap m k) ≡ None → All (λ n. n < count) (literals r)
-  literals-sound k r is e =
+  literals-declared : (k : ℕ) (r : Rule) → ruleAt m k ≡ Some r → firstBelow (length (r .positives) + length (r .negatives)) (literalGap m k) ≡ None → All (λ n. n < count) (literals r)
+  literals-declared k r is e =
       literals-below (λ i. LiteralMissing k (i + 1)) (literals r)
       (λ i l.
       ap (λ o. bindSome (missing m (LiteralMissing k (i + 1))) (bindSome (λ (s : Rule). nth (literals s) i) o)) (sym is)
@@ -113,12 +113,12 @@ module _ {S : Type 0} (m : Meaning S) where
       let few = few-everywhere m e k in
       (subst (λ o. countOr (mapped (λ (s : Rule). length (s .positives)) o) ≤ 6) is (few .0), subst (λ o. countOr (mapped (λ (s : Rule). length (s .negatives)) o) ≤ 6) is (few .1))
 
-  sound-in : bookGap m ≡ None → (k : ℕ) (o : Option Rule) → ruleAt m k ≡ o → gapIn k o ≡ None → Sounds count o
-  sound-in g k None is e = tt
-  sound-in g k (Some r) is e =
+  gapless-in : bookGap m ≡ None → (k : ℕ) (o : Option Rule) → ruleAt m k ≡ o → gapIn k o ≡ None → GaplessRow count o
+  gapless-in g k None is e = tt
+  gapless-in g k (Some r) is e =
       let few = short g k r is in
       let headed = passes (isSome (stampOf m (r .head))) _ _ (sym (short-on (length (r .positives)) (length (r .negatives)) _ _ (few .0) (few .1)) ∙ e) in
-      let bodies = all-parts (λ n. n < count) (r .positives) (r .negatives) (literals-sound k r is (headed .1)) in
+      let bodies = all-parts (λ n. n < count) (r .positives) (r .negatives) (literals-declared k r is (headed .1)) in
       record {
         declared = below-count (r .head) (headed .0);
         fewPositives = few .0;
@@ -128,17 +128,17 @@ module _ {S : Type 0} (m : Meaning S) where
       }
 
   -- each rule of a book without gaps keeps the limits
-  pub gapless-sound : bookGap m ≡ None → All (Sounds count) (m .rules)
-  gapless-sound e =
+  pub gap-rules : bookGap m ≡ None → All (GaplessRow count) (m .rules)
+  gap-rules e =
       let rest = sym (within (length (m .atoms)) (length (m .rules)) _ _ (small-atoms m e) (small-rules m e)) ∙ e in
-      each-rule (Sounds count) (m .rules) (λ k l. sound-in e k (ruleAt m k) refl (first-none (ruleGap m) (length (m .rules)) rest k l))
+      each-rule (GaplessRow count) (m .rules) (λ k l. gapless-in e k (ruleAt m k) refl (first-none (ruleGap m) (length (m .rules)) rest k l))
 
-  literals-gapless : (k : ℕ) (r : Rule) → ruleAt m k ≡ Some r → Sound count r → (i : ℕ) → literalGap m k i ≡ None
+  literals-gapless : (k : ℕ) (r : Rule) → ruleAt m k ≡ Some r → GaplessRule count r → (i : ℕ) → literalGap m k i ≡ None
   literals-gapless k r is s i =
       ap (λ o. bindSome (missing m (LiteralMissing k (i + 1))) (bindSome (λ (t : Rule). nth (literals t) i) o)) is
       ∙ literal-there (LiteralMissing k (i + 1)) (literals r) i (all-append (λ n. n < count) (r .positives) (r .negatives) (s .positives) (s .negatives))
 
-  gap-none : (k : ℕ) (o : Option Rule) → ruleAt m k ≡ o → Sounds count o → gapIn k o ≡ None
+  gap-none : (k : ℕ) (o : Option Rule) → ruleAt m k ≡ o → GaplessRow count o → gapIn k o ≡ None
   gap-none k None is s = refl
   gap-none k (Some r) is s =
       short-on (length (r .positives)) (length (r .negatives)) _ _ (s .fewPositives) (s .fewNegatives)
@@ -146,7 +146,7 @@ module _ {S : Type 0} (m : Meaning S) where
       ∙ first-all (literalGap m k) (length (r .positives) + length (r .negatives)) (λ i l. literals-gapless k r is s i)
 
   -- and a book of such rules has no gaps
-  pub sound-gapless : length (m .atoms) ≤ 1024 → length (m .rules) ≤ 1024 → All (Sounds count) (m .rules) → bookGap m ≡ None
-  sound-gapless a b s =
+  pub rules-gapless : length (m .atoms) ≤ 1024 → length (m .rules) ≤ 1024 → All (GaplessRow count) (m .rules) → bookGap m ≡ None
+  rules-gapless a b s =
       within (length (m .atoms)) (length (m .rules)) _ _ a b
-      ∙ first-all (ruleGap m) (length (m .rules)) (λ k l. gap-none k (ruleAt m k) refl (rule-of (Sounds count) (m .rules) k l s))
+      ∙ first-all (ruleGap m) (length (m .rules)) (λ k l. gap-none k (ruleAt m k) refl (rule-of (GaplessRow count) (m .rules) k l s))

@@ -24,10 +24,10 @@ use Rattle.text.specs.declared.reader.Room.{Room}
 use Rattle.text.specs.declared.reader.Stage.{Stage}
 use Rattle.writing.specs.Replies.{checkedText, canonicalAt}
 use Rattle.writing.specs.Writes.{bookGap, writeAnswer}
-use Rattle.grammar.specs.Agreement.{Agrees}
+use Rattle.grammar.proofs.Agreement.{Agrees}
 use Rattle.grammar.specs.Notations.{Notation, ticks, routes, pairs}
 use Rattle.grammar.specs.Pieces.{Care, shape, kept, plain}
-use Rattle.grammar.specs.Theorems.{Takes, readAs, writtenOf, SpeltBy, Held, ReadAsSpelt, ReadingIsTheGrammar, WrittenIsReadBack, ComesBack, AcceptedComesBack, CanonicalIsUnchanged, AnswerIsItsOwn, RefusedThere, RefusedAtTheFirstByte}
+use Rattle.grammar.specs.Theorems.{Takes, readAs, writtenOf, SpeltBy, Fitting, ReadAsSpelt, ReadingIsTheGrammar, WrittenIsReadBack, ComesBack, AcceptedComesBack, CanonicalIsUnchanged, DegreesNest, AnswerIsItsOwn, RefusedThere, RefusedAtTheFirstByte}
 use Rattle.grammar.proofs.Agreeing.{Any, agrees-before}
 use Rattle.grammar.proofs.Aisled.{route-agrees}
 use Rattle.grammar.proofs.Books.{book-canonical, book-unique, spelt-held, spelt-gapless, plain-kept, tick-plain-kept, pair-plain-kept, route-plain-kept}
@@ -38,7 +38,7 @@ use Rattle.grammar.proofs.Rests.{Going}
 use Rattle.grammar.proofs.Routes.{route-canonical, route-unique, route-fits}
 use Rattle.grammar.proofs.Staged.{forms-agree}
 use Rattle.grammar.proofs.Stamped.{tick-agrees, pair-agrees}
-use Rattle.grammar.proofs.Whole.{book-seen, book-reads, book-viable, book-none}
+use Rattle.grammar.proofs.Whole.{book-seen, book-reads, book-viable, book-none, book-shaped}
 
 -- what a kind of stamp keeps
 pub record Lawful {S : Type 0} (n : Notation S) : Type 0 where
@@ -111,7 +111,21 @@ module _ {S : Type 0} (n : Notation S) (l : Lawful n) where
       }
 
   pub canonical-is-unchanged : CanonicalIsUnchanged n
-  canonical-is-unchanged text m h = sym (book-unique (n .word) (n .spells) (n .spelt) (n .Fits) (l .unique) m text h)
+  canonical-is-unchanged text m h =
+      record {
+        read = λ atoms rules takes. reading-is-the-grammar text atoms rules m .reads (plain-kept (n .word) (n .spells) (n .spelt) (n .Fits) (l .plainly) m text h) takes;
+        written = sym (book-unique (n .word) (n .spells) (n .spelt) (n .Fits) (l .unique) m text h)
+      }
+
+  pub degrees-nest : DegreesNest n
+  degrees-nest m text =
+      record {
+        plainly = plain-kept (n .word) (n .spells) (n .spelt) (n .Fits) (l .plainly) m text;
+        shapely = book-shaped (n .stampAt) (n .word) (n .spells) (roomFor m) (forms (roomFor m)) text m (omega arith) (omega arith)
+      }
+    where
+      roomFor : Meaning S → Room
+      roomFor m = record { atoms = length (m .atoms); rules = length (m .rules) }
 
   -- where a book is checked and written, its text is what is answered
   written-answer : (m : Meaning S) (checked : Result (Unit {0}) Fault) (written : Result ℕ Fault) (answer : List ℕ) → andThen checked (λ _. andThen written (λ _. Ok (writtenOf n m))) ≡ Ok answer → answer ≡ writtenOf n m

@@ -1,3 +1,4 @@
+pub mod Agreement
 pub mod Places
 pub mod Agreeing
 pub mod Choosing

@@ -19,7 +19,7 @@ use Rattle.text.specs.Bytes.{andThen, passAt}
 use Rattle.text.specs.Numbers.{digitOf, numberAt}
 use Rattle.text.specs.Words.{isByte}
 use Rattle.grammar.specs.Pieces.{Care, shape, kept, plain, Kept, Exactly, Followed, Numeral, Spaced, Listed}
-use Rattle.grammar.specs.Agreement.{AtByte, Agrees}
+use Rattle.grammar.proofs.Agreement.{AtByte, Agrees}
 use Rattle.grammar.proofs.Agreeing.{Any, Via, agrees-same, agrees-as, agrees-then, agrees-done, byte-then}
 use Rattle.grammar.proofs.Choosing.{kept-map, agrees-choice, agrees-unless, agrees-never}
 use Rattle.grammar.proofs.Numbers.{number-agrees}

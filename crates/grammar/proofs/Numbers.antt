@@ -25,7 +25,7 @@ use Rattle.books.specs.declared.fault.Fault.the-variants.{Reading}
 use Rattle.text.specs.Bytes.{andThen, wrongAt}
 use Rattle.text.specs.Numbers.{digitOf, digitAt, grown, oneMore, digitsFrom, judged, numberAt}
 use Rattle.text.specs.Turns.{turns}
-use Rattle.grammar.specs.Agreement.{Same, Shared, Between, Seen, ShapeOnly, Reads, Agrees}
+use Rattle.grammar.proofs.Agreement.{Same, Shared, Between, Seen, ShapeOnly, Reads, Agrees}
 use Rattle.grammar.specs.Pieces.{Care, shape, kept, plain, Kept, Numeral}
 use Rattle.grammar.proofs.Places.{nth-front, between-join, between-none, between-one, drop-past}
 

@@ -18,7 +18,7 @@ use Rattle.text.specs.declared.reader.Room.{Room}
 use Rattle.text.specs.declared.reader.Stage.{Stage}
 use Rattle.text.specs.declared.reader.Stage.the-variants.{Start, Atoms, Rules, End}
 use Rattle.grammar.specs.Pieces.{Care, shape, kept, plain, Kept, Followed}
-use Rattle.grammar.specs.Agreement.{Agrees}
+use Rattle.grammar.proofs.Agreement.{Agrees}
 use Rattle.grammar.proofs.Agreeing.{Via, agrees-as, agrees-then, agrees-done}
 use Rattle.grammar.proofs.Choosing.{agrees-never}
 use Rattle.grammar.proofs.Lines.{FormAt}

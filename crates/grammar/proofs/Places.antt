@@ -9,7 +9,7 @@ use Rattle.std.proofs.shelf.Lists.{append-assoc, length-append, drop-drop, drop
 use Rattle.std.specs.Finite.{nth}
 use Rattle.std.specs.declared.option.Option.{Option}
 use Rattle.std.specs.declared.option.Option.the-variants.{Some, None}
-use Rattle.grammar.specs.Agreement.{Between}
+use Rattle.grammar.proofs.Agreement.{Between}
 
 -- the byte at a place is the first of what stands from it on
 pub nth-front : (text : List ℕ) (at : ℕ) → nth text at ≡ nth (drop at text) 0

@@ -22,7 +22,7 @@ use Rattle.text.specs.declared.reader.Stage.{Stage}
 use Rattle.text.specs.declared.reader.Stage.the-variants.{Start, Atoms, Rules, End}
 use Rattle.grammar.specs.Pieces.{Care, Kept, Exactly, Followed}
 use Rattle.grammar.specs.Grammar.{OrderForm, AtomForm, RuleForm, Numbered, Declared, Body}
-use Rattle.grammar.specs.Agreement.{Agrees}
+use Rattle.grammar.proofs.Agreement.{Agrees}
 use Rattle.grammar.proofs.Agreeing.{Any, agrees-same, agrees-as, agrees-done, byte-then-at, word-then, word-to, word-from}
 use Rattle.grammar.proofs.Choosing.{agrees-choice}
 use Rattle.grammar.proofs.Dispatch.{afterAtom, afterRule, afterVoid, afterEnd, start-same, rules-same, atoms-same}

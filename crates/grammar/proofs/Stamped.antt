@@ -27,7 +27,7 @@ use Rattle.text.specs.Words.{isByte}
 use Rattle.text.specs.declared.aisles.Aisles.{Aisles}
 use Rattle.grammar.specs.Pieces.{Care, Kept, Exactly, Followed, Numeral, Spaced, Listed}
 use Rattle.grammar.specs.Stamps.{TickSpelt, PairSpelt, RouteSpelt, RisingFrom, withAisles}
-use Rattle.grammar.specs.Agreement.{Agrees}
+use Rattle.grammar.proofs.Agreement.{Agrees}
 use Rattle.grammar.proofs.Agreeing.{Any, Via, then-then, agrees-same, agrees-as, agrees-then, agrees-done, byte-then}
 use Rattle.grammar.proofs.Choosing.{kept-map}
 use Rattle.grammar.proofs.Lists.{NoDigit, ended, unended, run, adds, Passes, Bracketed, listed, list-agrees, kept-both, followed-map}

@@ -27,7 +27,7 @@ use Rattle.text.specs.declared.reader.Room.{Room}
 use Rattle.text.specs.declared.reader.Stage.{Stage}
 use Rattle.text.specs.declared.reader.Stage.the-variants.{Start, Atoms, Rules, End}
 use Rattle.grammar.specs.Pieces.{Care, kept, Exactly, Followed}
-use Rattle.grammar.specs.Agreement.{Between, Seen, Agrees}
+use Rattle.grammar.proofs.Agreement.{Between, Seen, Agrees}
 use Rattle.grammar.proofs.Agreeing.{then-then}
 use Rattle.grammar.proofs.Lines.{FormAt}
 use Rattle.grammar.proofs.Onward.{withAtom, withRule, onward, lines}

@@ -23,7 +23,7 @@ use Rattle.text.specs.declared.reader.Stage.{Stage}
 use Rattle.text.specs.declared.reader.Stage.the-variants.{Start}
 use Rattle.grammar.specs.Pieces.{Care, shape, kept, Kept}
 use Rattle.grammar.specs.Grammar.{Spells}
-use Rattle.grammar.specs.Agreement.{AtByte, Same, Shared, Between, Seen, ShapeOnly, Reads, Agrees}
+use Rattle.grammar.proofs.Agreement.{AtByte, Same, Shared, Between, Seen, ShapeOnly, Reads, Agrees}
 use Rattle.grammar.proofs.Agreeing.{Reaches, Via, agrees-then, shared-from}
 use Rattle.grammar.proofs.Lines.{FormAt}
 use Rattle.grammar.proofs.Onward.{lines, Lines, lines-rest, start-lines, lines-agree}
@@ -193,3 +193,10 @@ module _ {S : Type 0} (stampAt : List ℕ → ℕ → Result (S × ℕ) Fault) (
   book-none text k e l more m h =
       let other = take (k + 1) text ++ more in
       never-byte shape (book other) m k (book-reads shape other m h tt) (book-shared text other k e (same-front text more k l))
+
+  -- a text that keeps every rule has the shape
+  pub book-shaped : (text : List ℕ) (m : Meaning S) → length (m .atoms) ≤ room .atoms → length (m .rules) ≤ room .rules → Spells word spells kept m text → Spells word spells shape m text
+  book-shaped text m a r h =
+      let n = length (m .atoms) + length (m .rules) + 1 in
+      let parts = rest-forms n kept m text (omega arith) (spells-rest word spells room kept m text (a, r) h) in
+      rest-spells word spells room shape m text (forms-rest (suc n) shape m text (whole-agrees (suc n) .shaped kept m text parts))

@@ -1,7 +1,6 @@
 pub mod Pieces
 pub mod Stamps
 pub mod Grammar
-pub mod Agreement
 pub mod Notations
 pub mod Theorems
 pub mod Examples

@@ -6,9 +6,7 @@ use lib.ListN.{length, getD}
 use lib.Chars.{codes}
 use Rattle.std.specs.Reads.{Digits, value}
 
--- how much of the rules a text keeps:
--- its shape alone (what numbers mean is left aside: limits, numbering, declared atoms, rising aisles, counts);
--- every rule; every rule with no leading zero in any number
+-- how much of the rules a text keeps: its shape alone, which leaves aside what numbers mean; every rule; every rule with no leading zero
 pub data Care : Type 0 where
   shape : Care
   kept : Care
@@ -37,6 +35,10 @@ pub record Followed (A B : List ℕ → Type 0) (text : List ℕ) : Type 0 where
   pub whole : text ≡ front ++ back
   pub first : A front
   pub second : B back
+
+-- the limit of every number but an aisle's
+abbrev pub largest : ℕ
+largest = 4294967295
 
 -- a number: one to ten digits in base ten, within the limit
 pub record Numeral (c : Care) (limit n : ℕ) (text : List ℕ) : Type 0 where

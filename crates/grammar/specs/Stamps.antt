@@ -1,5 +1,5 @@
 -- Stamps as the grammar has them.
-use Prim.Native.Nat.{ℕ, _+_, _*_, _^_, _<_, _≤_}
+use Prim.Native.Nat.{ℕ, _+_, _^_, _≤_}
 use mathlib.Core.List.{List, [], _∷_}
 use mathlib.Core.Path.{_≡_}
 use lib.Bits.{bitOr}
@@ -7,11 +7,11 @@ use lib.Chars.{codes}
 use Rattle.stamps.specs.declared.tick.Tick.{Tick}
 use Rattle.stamps.specs.declared.route.Route.{Route}
 use Rattle.stamps.specs.declared.then.Then.{Then}
-use Rattle.grammar.specs.Pieces.{Care, Kept, Exactly, Followed, Numeral, Listed}
+use Rattle.grammar.specs.Pieces.{Care, Kept, Exactly, Followed, largest, Numeral, Listed}
 
 -- a tick is its number
 abbrev pub TickSpelt : Care → Tick → List ℕ → Type 0
-TickSpelt c t = Numeral c 4294967295 (t .0)
+TickSpelt c t = Numeral c largest (t .0)
 
 -- two ticks in brackets
 abbrev pub PairSpelt : Care → Then Tick Tick → List ℕ → Type 0

@@ -39,8 +39,8 @@ module _ {S : Type 0} (n : Notation S) where
   SpeltBy c m text = Spells (n .word) (n .spells) c m text
 
   -- each stamp of the book is one that the machine holds
-  abbrev pub Held : Meaning S → Type 0
-  Held m = All (λ (a : Atom S). n .Fits (a .stamp)) (m .atoms)
+  abbrev pub Fitting : Meaning S → Type 0
+  Fitting m = All (λ (a : Atom S). n .Fits (a .stamp)) (m .atoms)
 
   -- a text is read as a book exactly where it spells the book, keeping every rule, and the tables take it
   pub record ReadAsSpelt (text : List ℕ) (atoms rules : ℕ) (m : Meaning S) : Type 0 where
@@ -48,34 +48,47 @@ module _ {S : Type 0} (n : Notation S) where
     pub takes : readAs text atoms rules ≡ Ok m → Takes atoms rules m
     pub reads : SpeltBy kept m text → Takes atoms rules m → readAs text atoms rules ≡ Ok m
 
+  -- it is so of every text, tables of every length and every book
   abbrev pub ReadingIsTheGrammar : Type 0
   ReadingIsTheGrammar = (text : List ℕ) (atoms rules : ℕ) (m : Meaning S) → ReadAsSpelt text atoms rules m
 
   -- a book that the writer takes is read back from its text as it was
   abbrev pub WrittenIsReadBack : Type 0
-  WrittenIsReadBack = (atoms rules : ℕ) (m : Meaning S) → bookGap m ≡ None → Held m → Takes atoms rules m → readAs (writtenOf m) atoms rules ≡ Ok m
+  WrittenIsReadBack = (atoms rules : ℕ) (m : Meaning S) → bookGap m ≡ None → Fitting m → Takes atoms rules m → readAs (writtenOf m) atoms rules ≡ Ok m
 
   -- the writer takes the book; its text is canonical and is read as the same book
   pub record ComesBack (atoms rules : ℕ) (m : Meaning S) : Type 0 where
     pub written : bookGap m ≡ None
-    pub held : Held m
+    pub held : Fitting m
     pub canonical : SpeltBy plain m (writtenOf m)
     pub same : readAs (writtenOf m) atoms rules ≡ Ok m
 
-  -- so comes back the book of every text that is read
+  -- it is so of the book of every accepted text
   abbrev pub AcceptedComesBack : Type 0
   AcceptedComesBack = (text : List ℕ) (atoms rules : ℕ) (m : Meaning S) → readAs text atoms rules ≡ Ok m → ComesBack atoms rules m
 
-  -- a text with no leading zero is the one that is written of its book
-  abbrev pub CanonicalIsUnchanged : Type 0
-  CanonicalIsUnchanged = (text : List ℕ) (m : Meaning S) → SpeltBy plain m text → writtenOf m ≡ text
+  -- a text with no leading zero that spells a book is read as it, where the tables take it, and is the one that is written of it
+  pub record Unchanged (text : List ℕ) (m : Meaning S) : Type 0 where
+    pub read : (atoms rules : ℕ) → Takes atoms rules m → readAs text atoms rules ≡ Ok m
+    pub written : writtenOf m ≡ text
 
-  -- what is answered to a text is answered to itself, whatever the order of the stamps
+  abbrev pub CanonicalIsUnchanged : Type 0
+  CanonicalIsUnchanged = (text : List ℕ) (m : Meaning S) → SpeltBy plain m text → Unchanged text m
+
+  -- what `canonical` answers to a text it answers to that answer, whatever the order of the stamps
   abbrev pub AnswerIsItsOwn : Type 0
   AnswerIsItsOwn =
       (before notAfter : S → S → Bool) (text answer : List ℕ) (atoms rules room : ℕ)
       → canonicalAt (n .stampAt) (n .word) (n .spelt) before notAfter text atoms rules room ≡ Ok answer
       → canonicalAt (n .stampAt) (n .word) (n .spelt) before notAfter answer atoms rules room ≡ Ok answer
+
+  -- each degree of care keeps what the lower one keeps
+  pub record Nested (m : Meaning S) (text : List ℕ) : Type 0 where
+    pub plainly : SpeltBy plain m text → SpeltBy kept m text
+    pub shapely : SpeltBy kept m text → SpeltBy shape m text
+
+  abbrev pub DegreesNest : Type 0
+  DegreesNest = (m : Meaning S) (text : List ℕ) → Nested m text
 
   -- the text has the shape of some book's
   abbrev pub Shaped : List ℕ → Type 0
@@ -87,6 +100,6 @@ module _ {S : Type 0} (n : Notation S) where
     pub before : (more : List ℕ) × Shaped (take k text ++ more)
     pub none : k < length text → (more : List ℕ) → Shaped (take (k + 1) text ++ more) → ⊥
 
-  -- there is refused a text that has a byte or a form that is not allowed
+  -- it is so of every text that is refused for a byte
   abbrev pub RefusedAtTheFirstByte : Type 0
   RefusedAtTheFirstByte = (text : List ℕ) (atoms rules k : ℕ) → readAs text atoms rules ≡ Err (Reading (Byte k)) → RefusedThere text k

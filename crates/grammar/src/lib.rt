@@ -3,13 +3,14 @@
 // for each of the three kinds of stamps that have a word.
 ghost use Rattle.grammar.specs.Examples.{ExamplesHold};
 ghost use Rattle.grammar.specs.Notations.{ticks, routes, pairs};
-ghost use Rattle.grammar.specs.Theorems.{ReadingIsTheGrammar, WrittenIsReadBack, AcceptedComesBack, CanonicalIsUnchanged, AnswerIsItsOwn, RefusedAtTheFirstByte};
+ghost use Rattle.grammar.specs.Theorems.{ReadingIsTheGrammar, WrittenIsReadBack, AcceptedComesBack, CanonicalIsUnchanged, DegreesNest, AnswerIsItsOwn, RefusedAtTheFirstByte};
 
-// A text is read as a book exactly where it spells that book by the grammar and the tables take it.
+// A text is read as a book exactly where it spells that book by the grammar and the tables take it;
+// and each degree of the grammar keeps what the lower one keeps.
 pub fn reading_is_the_grammar()
-    ensures of_ticks { λ _. ⌜ ReadingIsTheGrammar ticks ⌝ }
-    ensures of_routes { λ _. ⌜ ReadingIsTheGrammar routes ⌝ }
-    ensures of_pairs { λ _. ⌜ ReadingIsTheGrammar pairs ⌝ }
+    ensures of_ticks { λ _. ⌜ ReadingIsTheGrammar ticks × DegreesNest ticks ⌝ }
+    ensures of_routes { λ _. ⌜ ReadingIsTheGrammar routes × DegreesNest routes ⌝ }
+    ensures of_pairs { λ _. ⌜ ReadingIsTheGrammar pairs × DegreesNest pairs ⌝ }
 {}
 
 // A book written out and read in is the same book.
@@ -26,7 +27,8 @@ pub fn accepted_comes_back()
     ensures of_pairs { λ _. ⌜ AcceptedComesBack pairs ⌝ }
 {}
 
-// A text with no leading zero is what is written of its book; and what `canonical` answers to a text, it answers to that answer.
+// A text with no leading zero is read as its book, and is what is written of it; and what `canonical` answers to a text,
+// it answers to that answer.
 pub fn canonical_is_unchanged()
     ensures of_ticks { λ _. ⌜ CanonicalIsUnchanged ticks × AnswerIsItsOwn ticks ⌝ }
     ensures of_routes { λ _. ⌜ CanonicalIsUnchanged routes × AnswerIsItsOwn routes ⌝ }
