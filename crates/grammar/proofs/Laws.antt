@@ -114,14 +114,14 @@ module _ {S : Type 0} (n : Notation S) (l : Lawful n) where
   canonical-is-unchanged text m h =
       record {
         read = λ atoms rules takes. reading-is-the-grammar text atoms rules m .reads (plain-kept (n .word) (n .spells) (n .spelt) (n .Fits) (l .plainly) m text h) takes;
-        written = sym (book-unique (n .word) (n .spells) (n .spelt) (n .Fits) (l .unique) m text h)
+        written = sym (book-unique (n .word) (n .spells) (n .spelt) (n .Fits) (l .unique) m text h);
       }
 
   pub degrees-nest : DegreesNest n
   degrees-nest m text =
       record {
         plainly = plain-kept (n .word) (n .spells) (n .spelt) (n .Fits) (l .plainly) m text;
-        shapely = book-shaped (n .stampAt) (n .word) (n .spells) (roomFor m) (forms (roomFor m)) text m (omega arith) (omega arith)
+        shapely = book-shaped (n .stampAt) (n .word) (n .spells) (roomFor m) (forms (roomFor m)) text m (omega arith) (omega arith);
       }
     where
       roomFor : Meaning S → Room

@@ -1,5 +1,4 @@
 // Texts that are read, up to the limits.
-use books::fault::FaultDebug;
 use crate::marks::TickMark;
 use crate::marks::is_rule;
 use crate::marks::laid;
@@ -9,6 +8,7 @@ use crate::marks::marked_row;
 use crate::marks::marked_rule;
 use crate::marks::refusal;
 use crate::marks::refused_at;
+use books::fault::FaultDebug;
 use makes::flat::Flat;
 use makes::flat::FlatBook;
 use makes::rows::AtomRow;

@@ -29,7 +29,7 @@ const CLOSED_AISLE: &[u8] = b"(order tick)
 (end)
 ";
 
-const REROUTE: &[u8] = b"(order route)
+const JUNCTION: &[u8] = b"(order route)
 (atom 0 in ())
 (atom 1 in (3))
 (atom 2 out (3 4))
@@ -39,6 +39,22 @@ const REROUTE: &[u8] = b"(order route)
 (rule 1 3 (0 2) ())
 (rule 2 2 (0) (1))
 (rule 3 4 (2 3) (1))
+(end)
+";
+
+const REROUTE: &[u8] = b"(order tick)
+(atom 0 in 1)
+(atom 1 in 1)
+(atom 2 out 2)
+(atom 3 out 2)
+(atom 4 out 2)
+(atom 5 out 3)
+(rule 0 2 (0 1) ())
+(rule 1 3 (2) ())
+(rule 2 2 (3) ())
+(rule 3 4 (0) (1))
+(rule 4 5 (4) ())
+(rule 5 5 (3) ())
 (end)
 ";
 
@@ -277,8 +293,14 @@ fn the_closed_aisle_comes_back() -> Result<(), Fail> {
 }
 
 #[test]
+fn the_junction_comes_back() -> Result<(), Fail> {
+    check(comes_back(JUNCTION, &mut [mark_row::<RouteMark>(); 8], 5, 4)?)?;
+    check(replies(JUNCTION, JUNCTION))
+}
+
+#[test]
 fn the_reroute_comes_back() -> Result<(), Fail> {
-    check(comes_back(REROUTE, &mut [mark_row::<RouteMark>(); 8], 5, 4)?)?;
+    check(comes_back(REROUTE, &mut [mark_row::<TickMark>(); 8], 6, 6)?)?;
     check(replies(REROUTE, REROUTE))
 }
 

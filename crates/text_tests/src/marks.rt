@@ -155,7 +155,12 @@ fn same_numbers(found: &[usize], expected: &[usize]) -> bool {
 }
 
 // The row is a rule with this head and these lists.
-pub fn is_rule(row: &Option<RuleRow>, head: usize, positives: &[usize], negatives: &[usize]) -> bool {
+pub fn is_rule(
+    row: &Option<RuleRow>,
+    head: usize,
+    positives: &[usize],
+    negatives: &[usize],
+) -> bool {
     match row {
         Some(rule) => rule.head == head
             && same_numbers(rule.positives.as_slice(), positives)

@@ -1,7 +1,4 @@
 // Texts that are refused, with each fault at each place where it can arise.
-use books::fault::Fault;
-use books::fault::FaultPartialEq;
-use books::fault::ReadFault;
 use crate::marks::laid;
 use crate::marks::refused_at;
 use crate::marks::route_fault;
@@ -9,6 +6,9 @@ use crate::marks::route_refusal;
 use crate::marks::then_refusal;
 use crate::marks::tick_refusal;
 use crate::marks::undeclared;
+use books::fault::Fault;
+use books::fault::FaultPartialEq;
+use books::fault::ReadFault;
 use std::test::*;
 
 #[test]
@@ -57,7 +57,11 @@ fn anything_past_the_end() -> Result<(), Fail> {
     check(refused_at(tick_refusal(b"(order tick)\n(end)\nx"), 1, 19))?;
     check(refused_at(tick_refusal(b"(order tick)\n(end)\n(order tick)\n"), 1, 19))?;
     check(refused_at(tick_refusal(b"(order tick)\n(end)\n(atom 0 in 1)\n"), 1, 19))?;
-    check(refused_at(tick_refusal(b"(order tick)\n(end)\n(rule 0 0 () ())\n"), 1, 19))?;
+    check(refused_at(
+        tick_refusal(b"(order tick)\n(end)\n(rule 0 0 () ())\n"),
+        1,
+        19,
+    ))?;
     check(refused_at(tick_refusal(b"(order tick)\n(end)\n(void 0)\n"), 1, 19))?;
     check(refused_at(tick_refusal(b"(order tick)\n(end)"), 1, 18))
 }
@@ -92,8 +96,16 @@ fn routes_that_are_refused() -> Result<(), Fail> {
     check(refused_at(route_refusal(b"(order route)\n(atom 0 in (5 3))\n"), 1, 28))?;
     check(refused_at(route_refusal(b"(order route)\n(atom 0 in (5 )\n"), 1, 28))?;
     check(refused_at(route_refusal(b"(order route)\n(atom 0 in ( 5))\n"), 1, 26))?;
-    check(refused_at(route_refusal(b"(order route)\n(atom 0 in (1 5 3))\n"), 1, 30))?;
-    check(refused_at(route_refusal(b"(order route)\n(atom 0 in (63 64))\n"), 2, 29))?;
+    check(refused_at(
+        route_refusal(b"(order route)\n(atom 0 in (1 5 3))\n"),
+        1,
+        30,
+    ))?;
+    check(refused_at(
+        route_refusal(b"(order route)\n(atom 0 in (63 64))\n"),
+        2,
+        29,
+    ))?;
     check(refused_at(route_refusal(b"(order route)\n(atom 0 in 5)\n"), 1, 25))
 }
 
@@ -179,16 +191,40 @@ fn after_an_atom(form: &[u8], number: u8, from_bracket: usize) -> bool {
     let length = laid(&mut text, atom, form);
     length <= text.len()
         && from_bracket < 128
-        && refused_at(tick_refusal(&text[0..length]), number, atom.len() + from_bracket)
+        && refused_at(
+            tick_refusal(&text[0..length]),
+            number,
+            atom.len() + from_bracket,
+        )
 }
 
 #[test]
 fn numbers_of_eleven_digits() -> Result<(), Fail> {
-    check(refused_at(tick_refusal(b"(order tick)\n(atom 00000000000 in 1)\n"), 1, 29))?;
-    check(refused_at(then_refusal(b"(order then)\n(atom 0 in (00000000003 1))\n"), 1, 35))?;
-    check(refused_at(then_refusal(b"(order then)\n(atom 0 in (3 00000000001))\n"), 1, 37))?;
-    check(refused_at(route_refusal(b"(order route)\n(atom 0 in (00000000001))\n"), 1, 36))?;
-    check(refused_at(route_refusal(b"(order route)\n(atom 0 in (5 00000000003))\n"), 1, 38))?;
+    check(refused_at(
+        tick_refusal(b"(order tick)\n(atom 00000000000 in 1)\n"),
+        1,
+        29,
+    ))?;
+    check(refused_at(
+        then_refusal(b"(order then)\n(atom 0 in (00000000003 1))\n"),
+        1,
+        35,
+    ))?;
+    check(refused_at(
+        then_refusal(b"(order then)\n(atom 0 in (3 00000000001))\n"),
+        1,
+        37,
+    ))?;
+    check(refused_at(
+        route_refusal(b"(order route)\n(atom 0 in (00000000001))\n"),
+        1,
+        36,
+    ))?;
+    check(refused_at(
+        route_refusal(b"(order route)\n(atom 0 in (5 00000000003))\n"),
+        1,
+        38,
+    ))?;
     check(after_an_atom(b"(rule 00000000000 0 () ())\n", 1, 16))?;
     check(after_an_atom(b"(rule 0 00000000000 () ())\n", 1, 18))?;
     check(after_an_atom(b"(rule 0 0 (00000000000) ())\n", 1, 21))?;
@@ -198,8 +234,16 @@ fn numbers_of_eleven_digits() -> Result<(), Fail> {
 
 #[test]
 fn numbers_over_their_limit() -> Result<(), Fail> {
-    check(refused_at(tick_refusal(b"(order tick)\n(atom 4294967296 in 1)\n"), 2, 19))?;
-    check(refused_at(then_refusal(b"(order then)\n(atom 0 in (4294967296 1))\n"), 2, 25))?;
+    check(refused_at(
+        tick_refusal(b"(order tick)\n(atom 4294967296 in 1)\n"),
+        2,
+        19,
+    ))?;
+    check(refused_at(
+        then_refusal(b"(order then)\n(atom 0 in (4294967296 1))\n"),
+        2,
+        25,
+    ))?;
     check(after_an_atom(b"(rule 4294967296 0 () ())\n", 2, 6))?;
     check(after_an_atom(b"(rule 0 4294967296 () ())\n", 2, 8))?;
     check(after_an_atom(b"(rule 0 0 (4294967296) ())\n", 2, 11))?;
@@ -245,12 +289,12 @@ fn lines_that_end_with_byte_13() -> Result<(), Fail> {
 
 #[test]
 fn a_text_cut_after_each_byte() -> Result<(), Fail> {
-    let text =
-        b"(order tick)\n(atom 0 in 1)\n(atom 1 out 2)\n(rule 0 1 (0) ())\n(void 1)\n(end)\n";
+    let text = b"(order tick)\n(atom 0 in 1)\n(atom 1 out 2)\n(rule 0 1 (0) ())\n(void 1)\n(end)\n";
     for n in 0..text.len() {
         check(refused_at(tick_refusal(&text[0..n]), 1, n))?;
     }
-    let routes = b"(order route)\n(atom 0 in ())\n(atom 1 out (0 12 63))\n(rule 0 1 (0 0) (0))\n(end)\n";
+    let routes =
+        b"(order route)\n(atom 0 in ())\n(atom 1 out (0 2 30))\n(rule 0 1 (0 0) (0))\n(end)\n";
     for n in 0..routes.len() {
         check(refused_at(route_refusal(&routes[0..n]), 1, n))?;
     }

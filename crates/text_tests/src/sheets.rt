@@ -1,13 +1,13 @@
 // Sheets that are too short, and books that are not written.
-use books::fault::FaultDebug;
-use books::fault::Values;
-use books::fault::ValuesPartialEq;
 use crate::marks::TickMark;
 use crate::marks::begins_with;
 use crate::marks::mark_row;
 use crate::marks::mark_rule;
 use crate::seven::Seven;
 use crate::seven::SevenBook;
+use books::fault::FaultDebug;
+use books::fault::Values;
+use books::fault::ValuesPartialEq;
 use makes::flat::Flat;
 use makes::flat::FlatBook;
 use makes::rows::AtomRow;

@@ -7,5 +7,5 @@ returns c =
     record {
       of-ticks = (reading-is-the-grammar ticks lawful-ticks, degrees-nest ticks lawful-ticks);
       of-routes = (reading-is-the-grammar routes lawful-routes, degrees-nest routes lawful-routes);
-      of-pairs = (reading-is-the-grammar pairs lawful-pairs, degrees-nest pairs lawful-pairs)
+      of-pairs = (reading-is-the-grammar pairs lawful-pairs, degrees-nest pairs lawful-pairs);
     }
