@@ -11,10 +11,12 @@ use books::fault::ValuesPartialEq;
 use makes::flat::Flat;
 use makes::flat::FlatBook;
 use makes::rows::AtomRow;
+use makes::rows::RuleRow;
 use stamps::tick::Tick;
 use stamps::tick::TickOrder;
 use std::test::*;
 use text::stamp::TickSpelled;
+use writing::canonical::canonical;
 use writing::write::write;
 
 #[test]
@@ -70,4 +72,46 @@ fn a_head_that_is_not_there_is_not_written() -> Result<(), Fail> {
     };
     check(refused.number == 4 && refused.values == Values::RuleLiteral(0, 0))?;
     check(begins_with(&sheet, b"", 0))
+}
+
+// The book is refused with 3, 0 and 0, and the sheet stays.
+fn is_too_large<'a>(atoms: &'a [AtomRow<Tick>], rules: &'a [Option<RuleRow>]) -> bool {
+    let book = Flat { atoms, rules };
+    let mut sheet = [b'#'; 64];
+    match write(&book, &mut sheet) {
+        Ok(_) => false,
+        Err(fault) => {
+            let refusal = fault.refusal();
+            refusal.number == 3
+                && refusal.values == Values::RuleLiteral(0, 0)
+                && begins_with(&sheet, b"", 0)
+        }
+    }
+}
+
+#[test]
+fn a_book_over_the_limits_is_not_written() -> Result<(), Fail> {
+    check(is_too_large(&[mark_row::<TickMark>(); 1025], &[]))?;
+    check(is_too_large(&[], &[None; 1025]))
+}
+
+// The text is refused with this number, and the sheet stays.
+fn leaves_the_sheet(text: &[u8], number: u8) -> bool {
+    let mut sheet = [b'#'; 24];
+    match canonical(
+        text,
+        &mut [mark_row::<TickMark>(); 4],
+        &mut [mark_rule(); 4],
+        &mut sheet,
+    ) {
+        Ok(_) => false,
+        Err(fault) => fault.refusal().number == number && begins_with(&sheet, b"", 0),
+    }
+}
+
+#[test]
+fn a_refused_text_leaves_the_sheet() -> Result<(), Fail> {
+    check(leaves_the_sheet(b"(order tick)\n", 1))?;
+    check(leaves_the_sheet(b"(order tick)\n(atom 0 in 1)\n(rule 0 0 () ())\n(end)\n", 5))?;
+    check(leaves_the_sheet(b"(order tick)\n(atom 0 in 1)\n(end)\n", 17))
 }
