@@ -23,3 +23,4 @@ pub mod Aisled
 pub mod Staged
 pub mod Laws
 pub mod Examples
+pub mod Programmed

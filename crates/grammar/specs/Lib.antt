@@ -4,3 +4,4 @@ pub mod Grammar
 pub mod Notations
 pub mod Theorems
 pub mod Examples
+pub mod Programs

@@ -3,6 +3,7 @@
 // for each of the three kinds of stamps that have a word.
 ghost use Rattle.grammar.specs.Examples.{ExamplesHold};
 ghost use Rattle.grammar.specs.Notations.{ticks, routes, pairs};
+ghost use Rattle.grammar.specs.Programs.{ProgramRefusesThere};
 ghost use Rattle.grammar.specs.Theorems.{ReadingIsTheGrammar, WrittenIsReadBack, AcceptedComesBack, CanonicalIsUnchanged, DegreesNest, AnswerIsItsOwn, RefusedAtTheFirstByte};
 
 // A text is read as a book exactly where it spells that book by the grammar and the tables take it;
@@ -45,4 +46,10 @@ pub fn refused_at_the_first_byte()
 // What the definitions say of small texts.
 pub fn examples_hold()
     ensures { λ _. ⌜ ExamplesHold ⌝ }
+{}
+
+// Where the program refuses a byte, what stands before it begins a text of the grammar's shape of one of the three kinds,
+// and with it begins none.
+pub fn program_refuses_there()
+    ensures { λ _. ⌜ ProgramRefusesThere ⌝ }
 {}
