@@ -17,7 +17,7 @@ use Rattle.makes.specs.declared.rows.AtomRow.{AtomRow}
 use Rattle.makes.specs.declared.rows.RuleRow.{RuleRow}
 use Rattle.text.specs.Bytes.{andThen, wrongAt}
 use Rattle.text.specs.Turns.{tries}
-use Rattle.text.specs.Forms.{Line, orderLine, atomLine, ruleLine, endLine, formAt}
+use Rattle.text.specs.Forms.{Line, orderLine, atomLine, ruleLine, endLine, lineOf, formAt}
 use Rattle.text.specs.declared.reader.Stage.{Stage}
 use Rattle.text.specs.declared.reader.Stage.the-variants.{Start, Atoms, Rules, End}
 use Rattle.text.specs.declared.reader.Reader.{Reader}
@@ -103,6 +103,11 @@ Roomy room r form.Order = Unit {0}
 Roomy room r (form.Atom row) = r .atoms < room .atoms
 Roomy room r (form.Rule row) = r .rules < room .rules
 Roomy room r form.End = Unit {0}
+
+-- the reader is past the form that is found, or it stands where it stood
+abbrev pub Stepped : {S : Type 0} → Result (Form S) Fault → Reader → Reader → Result (Line S × ℕ) Fault → Type 0
+Stepped (Ok f) was is found = (Ok (lineOf f, is .next) ≡ found) × (is ≡ movedBy was (lineOf f) (is .next))
+Stepped (Err e) was is found = (Err e ≡ found) × (is ≡ was)
 
 -- the table of atoms with what a form says
 abbrev pub putAtom : {S : Type 0} → ℕ → List (AtomRow S) → Form S → List (AtomRow S)

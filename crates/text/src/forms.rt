@@ -1,8 +1,8 @@
 // Reading one form.
 ghost use mathlib.Core.Path.{_≡_};
 ghost use Rattle.std.specs.Vec.{made};
-ghost use Rattle.text.specs.Forms.{lined, nextNumber, readingAt, orderAt, atomAt, ruleFormAt, voidAt, endAt, refusedAt, formAt};
-ghost use Rattle.text.specs.Reads.{Roomy};
+ghost use Rattle.text.specs.Forms.{lineOf, lined, nextNumber, readingAt, orderAt, atomAt, ruleFormAt, voidAt, endAt, refusedAt, formAt};
+ghost use Rattle.text.specs.Reads.{movedBy, Roomy, Stepped};
 use crate::bytes::byte_at;
 use crate::bytes::pass;
 use crate::bytes::wrong;
@@ -127,17 +127,60 @@ fn refused_at(text: &[u8], stage: Stage, at: usize) -> usize
     }
 }
 
-// The form at which the reader stands, and the place after it.
-pub fn form<S: Spelled>(text: &[u8], room: Room, reader: Reader) -> Result<(Form<S>, usize), Fault>
-    ensures roomy { λ r. ⌜ made r (λ p. Roomy room reader (p .0)) ⌝ }
-    ensures value { λ r. ⌜ lined r ≡ formAt (S·Spelled .stampAt) (S·Spelled .spelling) (now (text .entry)) room reader ⌝ }
+// Each form moves the reader.
+fn moved<S: Spelled>(reader: Reader, room: Room, form: Form<S>, next: usize) -> Reader
+    requires { ⌜ Roomy room reader form ⌝ }
+    ensures { λ r. ⌜ r ≡ movedBy reader (lineOf form) next ⌝ }
 {
-    match (reader.stage, kind_at(text, reader.next)) {
-        (Stage::Start, Some(Kind::Order)) => order_form(text, reader.next),
-        (Stage::Atoms, Some(Kind::Atom)) => atom_form(text, room, reader),
-        (Stage::Atoms | Stage::Rules, Some(Kind::Rule)) => rule_form(text, room, reader),
-        (Stage::Atoms | Stage::Rules, Some(Kind::Void)) => void_form(text, room, reader),
-        (Stage::Atoms | Stage::Rules, Some(Kind::End)) => end_form(text, reader.next),
-        _ => wrong(refused_at(text, reader.stage, reader.next)),
+    match form {
+        Form::Order => Reader {
+            stage: Stage::Atoms,
+            next,
+            ..reader
+        },
+        Form::Atom(_) => Reader {
+            stage: Stage::Atoms,
+            next,
+            atoms: reader.atoms + 1,
+            ..reader
+        },
+        Form::Rule(_) => Reader {
+            stage: Stage::Rules,
+            next,
+            rules: reader.rules + 1,
+            ..reader
+        },
+        Form::End => Reader {
+            stage: Stage::End,
+            next,
+            ..reader
+        },
+    }
+}
+
+impl Reader {
+    // The form at which the reader stands, by its stage and the form's kind, and the place after it.
+    fn form<S: Spelled>(&self, text: &[u8], room: Room) -> Result<(Form<S>, usize), Fault>
+        ensures roomy { λ r. ⌜ made r (λ p. Roomy room (now (self .entry)) (p .0)) ⌝ }
+        ensures value { λ r. ⌜ lined r ≡ formAt (S·Spelled .stampAt) (S·Spelled .spelling) (now (text .entry)) room (now (self .entry)) ⌝ }
+    {
+        match (self.stage, kind_at(text, self.next)) {
+            (Stage::Start, Some(Kind::Order)) => order_form(text, self.next),
+            (Stage::Atoms, Some(Kind::Atom)) => atom_form(text, room, *self),
+            (Stage::Atoms | Stage::Rules, Some(Kind::Rule)) => rule_form(text, room, *self),
+            (Stage::Atoms | Stage::Rules, Some(Kind::Void)) => void_form(text, room, *self),
+            (Stage::Atoms | Stage::Rules, Some(Kind::End)) => end_form(text, self.next),
+            _ => wrong(refused_at(text, self.stage, self.next)),
+        }
+    }
+
+    // The form at which the reader stands moves it, or is refused and leaves it where it stands.
+    pub fn step<S: Spelled>(&mut self, text: &[u8], room: Room) -> Result<Form<S>, Fault>
+        ensures roomy { λ r. ⌜ made r (λ f. Roomy room (now (self .entry)) f) ⌝ }
+        ensures value { λ r. ⌜ Stepped r (now (self .entry)) (now (self .exit)) (formAt (S·Spelled .stampAt) (S·Spelled .spelling) (now (text .entry)) room (now (self .entry))) ⌝ }
+    {
+        let (form, next) = self.form::<S>(text, room)?;
+        *self = moved(*self, room, form, next);
+        Ok(form)
     }
 }

@@ -2,12 +2,10 @@
 ghost use lib.ListN.{length};
 ghost use mathlib.Core.Path.{_≡_};
 ghost use Prim.Native.Nat.{_≤_};
-ghost use Rattle.text.specs.Forms.{lineOf};
-ghost use Rattle.text.specs.Reads.{movedBy, isEnd, finished, oneMove, surveyAt, progressAt, bookAt, Roomy, putAtom, putRule, FilledBy, roomOf, ReadInto};
+ghost use Rattle.text.specs.Reads.{isEnd, finished, oneMove, surveyAt, progressAt, bookAt, Roomy, putAtom, putRule, FilledBy, roomOf, ReadInto};
 use crate::bytes::wrong;
 use crate::counts::Counts;
 use crate::form::Form;
-use crate::forms::form;
 use crate::reader::Reader;
 use crate::reader::Room;
 use crate::reader::Stage;
@@ -25,37 +23,6 @@ const START: Reader = Reader {
     atoms: 0,
     rules: 0,
 };
-
-// Each form moves the reader.
-fn moved<S: Spelled>(reader: Reader, room: Room, form: Form<S>, next: usize) -> Reader
-    requires { ⌜ Roomy room reader form ⌝ }
-    ensures { λ r. ⌜ r ≡ movedBy reader (lineOf form) next ⌝ }
-{
-    match form {
-        Form::Order => Reader {
-            stage: Stage::Atoms,
-            next,
-            ..reader
-        },
-        Form::Atom(_) => Reader {
-            stage: Stage::Atoms,
-            next,
-            atoms: reader.atoms + 1,
-            ..reader
-        },
-        Form::Rule(_) => Reader {
-            stage: Stage::Rules,
-            next,
-            rules: reader.rules + 1,
-            ..reader
-        },
-        Form::End => Reader {
-            stage: Stage::End,
-            next,
-            ..reader
-        },
-    }
-}
 
 fn is_end(stage: Stage) -> bool
     ensures { λ r. ⌜ r ≡ isEnd stage ⌝ }
@@ -80,8 +47,9 @@ fn one_move<S: Spelled>(text: &[u8], room: Room, reader: Reader) -> Result<Reade
     if is_finished(text, reader) {
         return Ok(reader);
     }
-    let (form, next) = form::<S>(text, room, reader)?;
-    Ok(moved(reader, room, form, next))
+    let mut moving = reader;
+    moving.step::<S>(text, room)?;
+    Ok(moving)
 }
 
 // Goes over the whole text and says where its reader ends, which is past the end form.
@@ -131,9 +99,9 @@ fn fill<S: Spelled>(
     let mut reader = START;
     for _turn in 0..text.len() {
         if !is_finished(text, reader) {
-            let (form, next) = form::<S>(text, room, reader)?;
-            put(form, reader, atoms, rules);
-            reader = moved(reader, room, form, next);
+            let before = reader;
+            let form = reader.step::<S>(text, room)?;
+            put(form, before, atoms, rules);
         }
     }
     Ok(())

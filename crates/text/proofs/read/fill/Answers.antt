@@ -27,8 +27,8 @@ loop-turn-again g c =
       | then-not-is-finished·in-Continue-form w ↦
           let f = w .in-Continue-form in
           let fits = roomier (c .args .room) (record { atoms = length (l .atoms); rules = length (l .rules) }) (l .reader) (f .form) (omega arith) (omega arith) (f .ensures tt .roomy) in
-          let more = reached-more stampAt spelling text (c .args .room) (l .-turn) (l .reader) (c .args .atoms .now) (l .atoms) (c .args .rules .now) (l .rules) (l .inv) (sym (w .if-not-is-finished .ensures tt)) (f .form) (f .next) (f .ensures tt .value) fits in
-          same-reached stampAt spelling text (c .args .room) _ _ _ _ _ _ _ _ _ (w .reader-is ∙ w .moved-reader .ensures) (w .atoms-is ∙ w .put .ensures .atoms) (w .rules-is ∙ w .put .ensures .rules) more
+          let more = reached-more stampAt spelling text (c .args .room) (l .-turn) (l .reader) (c .args .atoms .now) (l .atoms) (c .args .rules .now) (l .rules) (l .inv) (sym (w .if-not-is-finished .ensures tt)) (f .form) _ (f .ensures tt .value .0) fits in
+          same-reached stampAt spelling text (c .args .room) _ _ _ _ _ _ _ _ _ (w .reader-is ∙ f .ensures tt .value .1) (w .atoms-is ∙ w .put .ensures .atoms) (w .rules-is ∙ w .put .ensures .rules) more
       | else-not-is-finished w ↦
           let stays = reached-stays stampAt spelling text (c .args .room) (l .-turn) (l .reader) (c .args .atoms .now) (l .atoms) (c .args .rules .now) (l .rules) (l .inv) (sym (w .if-not-is-finished .ensures tt)) in
           same-reached stampAt spelling text (c .args .room) _ _ _ _ _ _ _ _ _ (w .reader-is) (w .atoms-is) (w .rules-is) stays
@@ -39,7 +39,7 @@ returns-in-Break-form g c =
     let l = c .loop-turn in
     let p = err-from-errBy (c .from-residual .result) (c .from-residual .ensures .1) in
     rw (p .1, p .2)
-    (reached-refused (g .S·Spelled .stampAt) (g .S·Spelled .spelling) (c .args .text .now) (c .args .room) (l .-turn) (l .reader) (c .args .atoms .now) (l .atoms) (c .args .rules .now) (l .rules) (l .inv) (sym (c .if-not-is-finished .ensures tt)) _ (c .in-Break-form .ensures tt .value) (c .loop-turn-test .taken))
+    (reached-refused (g .S·Spelled .stampAt) (g .S·Spelled .spelling) (c .args .text .now) (c .args .room) (l .-turn) (l .reader) (c .args .atoms .now) (l .atoms) (c .args .rules .now) (l .rules) (l .inv) (sym (c .if-not-is-finished .ensures tt)) _ (c .in-Break-form .ensures tt .value .0) (c .loop-turn-test .taken))
 
 pub returns : need.returns
 unfolding progressAt

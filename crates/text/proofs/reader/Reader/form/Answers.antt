@@ -1,6 +1,6 @@
 use borrow.Author.Needs.{needs}
 use Rattle.text.specs.Forms.{formAt}
-use Rattle.text.proofs.forms.form.Needs as need
+use Rattle.text.proofs.reader.Reader.form.Needs as need
 
 pub returns-in-Start-Some-Order : need.returns-in-Start-Some-Order
 unfolding formAt
