@@ -1,15 +1,13 @@
 -- Readers of pieces that agree with their grammar, put together.
-use Prim.Native.Nat.{ℕ, zero, suc, _+_, _≤_}
+use Prim.Native.Nat.{ℕ, _+_, _≤_}
 use mathlib.Core.Bool.{Bool, true, false, cond}
 use mathlib.Core.List.{List, [], _∷_, _++_}
-use mathlib.Core.Logic.{_⊎_, inl, inr}
+use mathlib.Core.Logic.{inl, inr}
 use mathlib.Core.Path.{_≡_, refl, sym, ap, _∙_, subst}
-use native.Mathlib.Numerals.{add-one}
 use native.Mathlib.Omega.{arith}
-use lib.Dec.{eqb}
 use lib.ListN.{length, drop}
-use Rattle.std.proofs.shelf.Lists.{append-assoc, append-nil, length-append}
-use Rattle.std.proofs.shelf.Tests.{cases-eq, eq-eqb, ne-eqb, eqb-true}
+use Rattle.std.proofs.shelf.Lists.{append-assoc, length-append}
+use Rattle.std.proofs.shelf.Tests.{cases-eq, eq-eqb, ne-eqb}
 use Rattle.std.specs.Finite.{nth}
 use Rattle.std.specs.declared.option.Option.{Option}
 use Rattle.std.specs.declared.option.Option.the-variants.{Some, None}
@@ -21,8 +19,8 @@ use Rattle.books.specs.declared.fault.Fault.the-variants.{Reading, Checking}
 use Rattle.text.specs.Bytes.{andThen, passAt, passIf, wrongAt}
 use Rattle.text.specs.Words.{passWord}
 use Rattle.grammar.specs.Pieces.{Care, shape, kept, plain, Kept, Exactly, Followed}
-use Rattle.grammar.proofs.Agreement.{AtByte, Same, Shared, Between, Seen, ShapeOnly, Reads, Agrees}
-use Rattle.grammar.proofs.Places.{nth-front, drop-step, drop-past, between-join, between-none, between-one}
+use Rattle.grammar.proofs.Agreement.{AtByte, Same, Shared, Between, Seen, Reads, Agrees}
+use Rattle.grammar.proofs.Places.{nth-front, drop-past, between-join, between-none, between-one}
 
 -- whatever follows
 abbrev pub Any : List ℕ → Type 0

@@ -1,28 +1,27 @@
 -- The forms agree with their grammar, each from the byte after its bracket on.
-use Prim.Native.Nat.{ℕ, zero, suc, _+_, _<_, _≤_}
+use Prim.Native.Nat.{ℕ, _+_, _<_}
 use mathlib.Core.Bool.{Bool, true, false, cond}
 use mathlib.Core.List.{List, [], _∷_, _++_}
-use mathlib.Core.Path.{_≡_, refl, sym, ap, _∙_, subst}
+use mathlib.Core.Path.{_≡_, refl, ap, _∙_}
 use lib.Dec.{leb}
 use Rattle.std.proofs.shelf.Tests.{leb-false, lt-leb}
 use Rattle.std.specs.Finite.{nth}
 use Rattle.std.specs.declared.option.Option.the-variants.{Some, None}
 use Rattle.std.specs.declared.result.Result.{Result}
-use Rattle.std.specs.declared.result.Result.the-variants.{Ok, Err}
+use Rattle.std.specs.declared.result.Result.the-variants.{Ok}
 use Rattle.books.specs.Meaning.{Atom, Rule}
 use Rattle.books.specs.declared.fault.ReadFault.the-variants.{TooMany}
 use Rattle.books.specs.declared.fault.Fault.{Fault}
 use Rattle.books.specs.declared.fault.Fault.the-variants.{Reading}
 use Rattle.text.specs.Bytes.{andThen, passAt}
-use Rattle.text.specs.Forms.{Line, orderLine, atomLine, ruleLine, endLine, closing, nextNumber, ifRoom, readingAt, inWord, outWord}
+use Rattle.text.specs.Forms.{Line, atomLine, ruleLine, endLine, closing, nextNumber, ifRoom, readingAt, inWord, outWord}
 use Rattle.text.specs.Numbers.{digitOf}
 use Rattle.text.specs.Rules.{ruleAt}
-use Rattle.text.specs.Spelt.{kindText, space}
+use Rattle.text.specs.Spelt.{kindText}
 use Rattle.text.specs.Words.{passWord}
 use Rattle.text.specs.declared.reader.Room.{Room}
-use Rattle.text.specs.declared.site.Site.{Site}
 use Rattle.grammar.specs.Pieces.{Care, Kept, Exactly, Followed}
-use Rattle.grammar.specs.Grammar.{Numbered, Declared, Body}
+use Rattle.grammar.specs.Grammar.{Numbered}
 use Rattle.grammar.proofs.Agreement.{Agrees}
 use Rattle.grammar.proofs.Agreeing.{Any, Via, agrees-as, agrees-then, agrees-done, byte-then, word-then, word-to, word-from}
 use Rattle.grammar.proofs.Choosing.{kept-map, agrees-unless}

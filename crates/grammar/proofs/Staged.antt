@@ -1,18 +1,16 @@
 -- The form at which a reader stands agrees with the forms that are allowed there.
-use Prim.Native.Nat.{ℕ, _+_, _<_}
-use mathlib.Core.Bool.{Bool, cond}
+use Prim.Native.Nat.{ℕ, _+_}
+use mathlib.Core.Bool.{cond}
 use mathlib.Core.List.{List, [], _∷_, _++_}
 use mathlib.Core.Logic.{_⊎_, inl, inr}
 use mathlib.Core.Path.{_≡_, refl, sym, ap, _∙_, subst}
-use native.Mathlib.Omega.{arith}
 use Rattle.std.specs.Finite.{nth}
-use Rattle.std.specs.declared.option.Option.{Option}
 use Rattle.std.specs.declared.option.Option.the-variants.{Some, None}
 use Rattle.std.specs.declared.result.Result.{Result}
-use Rattle.std.specs.declared.result.Result.the-variants.{Ok, Err}
+use Rattle.std.specs.declared.result.Result.the-variants.{Ok}
 use Rattle.books.specs.Meaning.{Rule, Atom}
 use Rattle.books.specs.declared.fault.Fault.{Fault}
-use Rattle.text.specs.Bytes.{andThen, passAt}
+use Rattle.text.specs.Bytes.{andThen}
 use Rattle.text.specs.Forms.{Line, orderLine, atomLine, ruleLine, endLine, closing, orderAt, formAt}
 use Rattle.text.specs.Kinds.{orderOpening, atomOpening, ruleOpening, voidOpening}
 use Rattle.text.specs.Spelt.{space, endText, kindText}
@@ -20,15 +18,15 @@ use Rattle.text.specs.Words.{passWord, isByte}
 use Rattle.text.specs.declared.reader.Room.{Room}
 use Rattle.text.specs.declared.reader.Stage.{Stage}
 use Rattle.text.specs.declared.reader.Stage.the-variants.{Start, Atoms, Rules, End}
-use Rattle.grammar.specs.Pieces.{Care, Kept, Exactly, Followed}
-use Rattle.grammar.specs.Grammar.{OrderForm, AtomForm, RuleForm, Numbered, Declared, Body}
+use Rattle.grammar.specs.Pieces.{Care, Exactly, Followed}
+use Rattle.grammar.specs.Grammar.{OrderForm, Numbered, Declared, Body}
 use Rattle.grammar.proofs.Agreement.{Agrees}
 use Rattle.grammar.proofs.Agreeing.{Any, agrees-same, agrees-as, agrees-done, byte-then-at, word-then, word-to, word-from}
 use Rattle.grammar.proofs.Choosing.{agrees-choice}
 use Rattle.grammar.proofs.Dispatch.{afterAtom, afterRule, afterVoid, afterEnd, start-same, rules-same, atoms-same}
 use Rattle.grammar.proofs.Formed.{Parts}
-use Rattle.grammar.proofs.Forms.{RuleRest, rule-rest, rule-rest-agrees, VoidRest, void-rest, void-rest-agrees, EndRest, end-rest, end-rest-agrees, AtomRest, atom-rest, atom-rest-agrees}
-use Rattle.grammar.proofs.Lines.{AtomNext, LateForm, FormAt}
+use Rattle.grammar.proofs.Forms.{RuleRest, rule-rest, rule-rest-agrees, VoidRest, void-rest, void-rest-agrees, EndRest, end-rest-agrees, AtomRest, atom-rest, atom-rest-agrees}
+use Rattle.grammar.proofs.Lines.{LateForm, FormAt}
 use Rattle.grammar.proofs.Lists.{NoDigit, ended, unended, regroup, ungroup, followed-map}
 use Rattle.grammar.proofs.Rests.{Going}
 

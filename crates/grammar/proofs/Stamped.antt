@@ -1,38 +1,20 @@
 -- Stamps agree with their grammar.
-use Prim.Native.Nat.{ℕ, zero, suc, _+_, _^_, _<_, _≤_}
-use mathlib.Core.Bool.{Bool, true, false, cond}
+use Prim.Native.Nat.{ℕ, _+_}
 use mathlib.Core.List.{List, [], _∷_, _++_}
-use mathlib.Core.Logic.{_⊎_, inl, inr}
 use mathlib.Core.Path.{_≡_, refl, sym, ap, _∙_, subst}
-use native.Mathlib.Omega.{arith}
-use lib.Bits.{bitOr}
-use lib.Dec.{ltb}
-use Rattle.std.proofs.shelf.Lists.{append-nil}
-use Rattle.std.proofs.shelf.Tests.{cases-lt, lt-ltb, le-ltb, ltb-false}
-use Rattle.std.specs.Finite.{nth, All}
-use Rattle.std.specs.declared.result.Result.{Result}
-use Rattle.std.specs.declared.result.Result.the-variants.{Ok, Err}
-use Rattle.books.specs.declared.fault.ReadFault.the-variants.{Number, NotRising}
-use Rattle.books.specs.declared.fault.Fault.{Fault}
-use Rattle.books.specs.declared.fault.Fault.the-variants.{Reading}
+use Rattle.std.specs.Finite.{nth}
+use Rattle.std.specs.declared.result.Result.the-variants.{Ok}
 use Rattle.stamps.specs.declared.tick.Tick.{Tick}
-use Rattle.stamps.specs.declared.route.Route.{Route}
 use Rattle.stamps.specs.declared.then.Then.{Then}
 use Rattle.text.specs.Bytes.{andThen, passAt}
-use Rattle.text.specs.Lists.{openAt, onwardAt, emptyIf, onwardIf}
 use Rattle.text.specs.Numbers.{digitOf, numberAt}
-use Rattle.text.specs.Stamps.{tickAt, pairAt, oneAisle, noAisle, aislesAt, routeAt}
-use Rattle.text.specs.Turns.{turns, tries}
-use Rattle.text.specs.Words.{isByte}
-use Rattle.text.specs.declared.aisles.Aisles.{Aisles}
-use Rattle.grammar.specs.Pieces.{Care, Kept, Exactly, Followed, Numeral, Spaced, Listed}
-use Rattle.grammar.specs.Stamps.{TickSpelt, PairSpelt, RouteSpelt, RisingFrom, withAisles}
+use Rattle.text.specs.Stamps.{tickAt, pairAt}
+use Rattle.grammar.specs.Pieces.{Care, Exactly, Followed, Numeral}
+use Rattle.grammar.specs.Stamps.{TickSpelt, PairSpelt}
 use Rattle.grammar.proofs.Agreement.{Agrees}
-use Rattle.grammar.proofs.Agreeing.{Any, Via, then-then, agrees-same, agrees-as, agrees-then, agrees-done, byte-then}
-use Rattle.grammar.proofs.Choosing.{kept-map}
-use Rattle.grammar.proofs.Lists.{NoDigit, ended, unended, run, adds, Passes, Bracketed, listed, list-agrees, kept-both, followed-map}
-use Rattle.grammar.proofs.Numbers.{number-agrees, number-limited}
-use Rattle.grammar.proofs.Turning.{tries-first, tries-stay, onward-same, open-same}
+use Rattle.grammar.proofs.Agreeing.{Any, Via, agrees-as, agrees-then, agrees-done, byte-then}
+use Rattle.grammar.proofs.Lists.{NoDigit, ended, unended}
+use Rattle.grammar.proofs.Numbers.{number-agrees}
 
 abbrev Ticked : Care → ℕ → List ℕ → Type 0
 Ticked c v piece = Numeral c 4294967295 v piece
