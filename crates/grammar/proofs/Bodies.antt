@@ -26,8 +26,8 @@ use Rattle.grammar.specs.Pieces.{Care}
 use Rattle.grammar.specs.Grammar.{Body}
 use Rattle.grammar.proofs.Agreement.{Agrees}
 use Rattle.grammar.proofs.Agreeing.{Any, then-then, agrees-same, agrees-as}
-use Rattle.grammar.proofs.Choosing.{kept-map}
-use Rattle.grammar.proofs.Lists.{run, adds, Passes, Bracketed, listed, list-agrees, kept-both}
+use Rattle.grammar.proofs.Keeping.{kept-map, kept-both}
+use Rattle.grammar.proofs.Lists.{run, adds, Passes, Bracketed, listed, list-agrees}
 use Rattle.grammar.proofs.Turning.{tries-first, tries-stay, onward-same, open-same}
 
 module _ (site : Site) (before : ℕ) where

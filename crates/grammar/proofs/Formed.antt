@@ -27,7 +27,8 @@ use Rattle.grammar.specs.Grammar.{Numbered, Declared, Body}
 use Rattle.grammar.proofs.Agreement.{Agrees}
 use Rattle.grammar.proofs.Agreeing.{Any, Via, agrees-same, agrees-as, agrees-then, agrees-done, agrees-if, byte-then, word-then}
 use Rattle.grammar.proofs.Bodies.{body-agrees}
-use Rattle.grammar.proofs.Choosing.{kept-map, agrees-choice, agrees-unless}
+use Rattle.grammar.proofs.Choosing.{agrees-choice, agrees-unless}
+use Rattle.grammar.proofs.Keeping.{kept-map}
 use Rattle.grammar.proofs.Lists.{NoDigit, ended, unended}
 use Rattle.grammar.proofs.Numbers.{number-agrees}
 

@@ -24,8 +24,9 @@ use Rattle.grammar.specs.Pieces.{Care, Kept, Exactly, Followed}
 use Rattle.grammar.specs.Grammar.{Numbered}
 use Rattle.grammar.proofs.Agreement.{Agrees}
 use Rattle.grammar.proofs.Agreeing.{Any, Via, agrees-as, agrees-then, agrees-done, byte-then, word-then, word-to, word-from}
-use Rattle.grammar.proofs.Choosing.{kept-map, agrees-unless}
+use Rattle.grammar.proofs.Choosing.{agrees-unless}
 use Rattle.grammar.proofs.Formed.{Parts, kind-agrees, numbered-then, rule-agrees}
+use Rattle.grammar.proofs.Keeping.{kept-map}
 use Rattle.grammar.proofs.Lists.{NoDigit, ended, unended}
 
 -- where a piece begins with a byte that is no digit

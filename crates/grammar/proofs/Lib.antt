@@ -1,5 +1,6 @@
 pub mod Agreement
 pub mod Places
+pub mod Keeping
 pub mod Agreeing
 pub mod Choosing
 pub mod Numbers

@@ -16,10 +16,11 @@ use Rattle.books.specs.declared.fault.Fault.{Fault}
 use Rattle.text.specs.Bytes.{andThen, passAt}
 use Rattle.text.specs.Numbers.{digitOf, numberAt}
 use Rattle.text.specs.Words.{isByte}
-use Rattle.grammar.specs.Pieces.{Care, shape, kept, plain, Kept, Exactly, Followed, Numeral, Spaced, Listed}
+use Rattle.grammar.specs.Pieces.{Care, shape, Kept, Exactly, Followed, Numeral, Spaced, Listed}
 use Rattle.grammar.proofs.Agreement.{AtByte, Agrees}
 use Rattle.grammar.proofs.Agreeing.{Any, Via, agrees-same, agrees-as, agrees-then, agrees-done, byte-then}
-use Rattle.grammar.proofs.Choosing.{kept-map, agrees-choice, agrees-unless, agrees-never}
+use Rattle.grammar.proofs.Choosing.{agrees-choice, agrees-unless, agrees-never}
+use Rattle.grammar.proofs.Keeping.{kept-map, kept-fact, kept-three}
 use Rattle.grammar.proofs.Numbers.{number-agrees}
 
 -- a text that does not begin with a digit
@@ -60,22 +61,6 @@ spaced-shaped c limit [] text h = h
 spaced-shaped c limit (n ∷ []) text h = numeral-shaped c limit n text h
 spaced-shaped c limit (n ∷ m ∷ ns) text h =
     followed-map _ _ _ _ text (numeral-shaped c limit n) (λ t. followed-map _ _ _ _ t (λ u e. e) (spaced-shaped c limit (m ∷ ns))) h
-
--- two rules that are kept
-pub kept-both : (P Q : Type 0) (c : Care) → Kept c P → Kept c Q → Kept c (P × Q)
-kept-both P Q shape p q = tt
-kept-both P Q kept p q = (p, q)
-kept-both P Q plain p q = (p, q)
-
-pub kept-three : (P Q R : Type 0) (c : Care) → Kept c P → Kept c Q → Kept c R → Kept c (P × Q × R)
-kept-three P Q R shape p q r = tt
-kept-three P Q R kept p q r = (p, q, r)
-kept-three P Q R plain p q r = (p, q, r)
-
-pub kept-fact : (P : Type 0) (c : Care) → P → Kept c P
-kept-fact P shape p = tt
-kept-fact P kept p = p
-kept-fact P plain p = p
 
 -- a number begins with a digit, which is no bracket
 pub starts-digit : (c : Care) (limit n : ℕ) (text rest : List ℕ) → Numeral c limit n text → isByte 41 (nth (text ++ rest) 0) ≡ false
