@@ -27,8 +27,9 @@ use Rattle.grammar.specs.Stamps.{RouteSpelt, RisingFrom, withAisles}
 use Rattle.grammar.proofs.Agreement.{Agrees}
 use Rattle.grammar.proofs.Agreeing.{Any, Via, then-then, agrees-same, agrees-as, agrees-then, agrees-done}
 use Rattle.grammar.proofs.Canonical.{list-within}
+use Rattle.grammar.proofs.Following.{followed-map, ended, unended}
 use Rattle.grammar.proofs.Keeping.{kept-map, kept-both}
-use Rattle.grammar.proofs.Lists.{ended, unended, run, adds, Passes, Bracketed, listed, list-agrees, followed-map}
+use Rattle.grammar.proofs.Lists.{run, adds, Passes, Bracketed, listed, list-agrees}
 use Rattle.grammar.proofs.Numbers.{number-limited}
 use Rattle.grammar.proofs.Turning.{tries-first, tries-stay, onward-same, open-same}
 

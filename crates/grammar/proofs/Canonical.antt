@@ -18,18 +18,10 @@ use Rattle.std.specs.declared.option.Option.the-variants.{Some, None}
 use Rattle.stamps.specs.declared.tick.Tick.{Tick}
 use Rattle.stamps.specs.declared.then.Then.{Then}
 use Rattle.text.specs.Spelt.{upTo, space, opening, shutting, item, listText, tickText, pairText}
-use Rattle.grammar.specs.Pieces.{Care, kept, plain, Kept, Followed, Numeral, Spaced, Listed}
+use Rattle.grammar.specs.Pieces.{Care, kept, plain, Kept, Numeral, Spaced, Listed}
 use Rattle.grammar.specs.Stamps.{TickSpelt, PairSpelt}
+use Rattle.grammar.proofs.Following.{followed-by, followed-unique}
 use Rattle.grammar.proofs.Keeping.{kept-fact, kept-both}
-
--- a piece and then another
-pub followed-by : {A B : List ℕ → Type 0} (front back : List ℕ) → A front → B back → Followed A B (front ++ back)
-followed-by front back a b = record { front = front; back = back; whole = refl; first = a; second = b }
-
--- where each of two pieces has one text, so have they together
-pub followed-unique : {A B : List ℕ → Type 0} (front back text : List ℕ) → ((t : List ℕ) → A t → t ≡ front) → ((t : List ℕ) → B t → t ≡ back) → Followed A B text → text ≡ front ++ back
-followed-unique front back text a b h =
-    h .whole ∙ ap (λ t. t ++ h .back) (a (h .front) (h .first)) ∙ ap (λ t. front ++ t) (b (h .back) (h .second))
 
 no-leading-zero : (n : ℕ) → n < 2 ^ 64 → getD (decimal n) 0 0 ≡ 48 → length (decimal n) ≡ 1
 no-leading-zero n h e =

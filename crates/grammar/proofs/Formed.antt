@@ -28,8 +28,9 @@ use Rattle.grammar.proofs.Agreement.{Agrees}
 use Rattle.grammar.proofs.Agreeing.{Any, Via, agrees-same, agrees-as, agrees-then, agrees-done, agrees-if, byte-then, word-then}
 use Rattle.grammar.proofs.Bodies.{body-agrees}
 use Rattle.grammar.proofs.Choosing.{agrees-choice, agrees-unless}
+use Rattle.grammar.proofs.Following.{ended, unended}
 use Rattle.grammar.proofs.Keeping.{kept-map}
-use Rattle.grammar.proofs.Lists.{NoDigit, ended, unended}
+use Rattle.grammar.proofs.Lists.{NoDigit}
 use Rattle.grammar.proofs.Numbers.{number-agrees}
 
 abbrev Known : Site → ℕ → Care → ℕ → List ℕ → Type 0

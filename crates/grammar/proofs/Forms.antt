@@ -23,11 +23,12 @@ use Rattle.text.specs.declared.reader.Room.{Room}
 use Rattle.grammar.specs.Pieces.{Care, Kept, Exactly, Followed}
 use Rattle.grammar.specs.Grammar.{Numbered}
 use Rattle.grammar.proofs.Agreement.{Agrees}
-use Rattle.grammar.proofs.Agreeing.{Any, Via, agrees-as, agrees-then, agrees-done, byte-then, word-then, word-to, word-from}
+use Rattle.grammar.proofs.Agreeing.{Any, Via, agrees-as, agrees-then, agrees-done, byte-then, word-then}
 use Rattle.grammar.proofs.Choosing.{agrees-unless}
+use Rattle.grammar.proofs.Following.{ended, unended, word-to, word-from}
 use Rattle.grammar.proofs.Formed.{Parts, kind-agrees, numbered-then, rule-agrees}
 use Rattle.grammar.proofs.Keeping.{kept-map}
-use Rattle.grammar.proofs.Lists.{NoDigit, ended, unended}
+use Rattle.grammar.proofs.Lists.{NoDigit}
 
 -- where a piece begins with a byte that is no digit
 pub starts : (b : ℕ) (word : List ℕ) (A : List ℕ → Type 0) (piece rest : List ℕ) → digitOf (Some b) ≡ None → Followed (Exactly (b ∷ word)) A piece → NoDigit (piece ++ rest)

@@ -1,6 +1,7 @@
 pub mod Agreement
 pub mod Places
 pub mod Keeping
+pub mod Following
 pub mod Agreeing
 pub mod Choosing
 pub mod Numbers

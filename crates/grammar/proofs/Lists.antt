@@ -5,7 +5,7 @@ use mathlib.Core.List.{List, [], _∷_, _++_}
 use mathlib.Core.Logic.{_⊎_, inl, inr}
 use mathlib.Core.Path.{_≡_, refl, sym, ap, _∙_, subst}
 use native.Mathlib.Omega.{arith}
-use Rattle.std.proofs.shelf.Lists.{append-assoc, append-nil}
+use Rattle.std.proofs.shelf.Lists.{append-assoc}
 use Rattle.std.proofs.shelf.Tests.{ne-eqb}
 use Rattle.std.specs.Finite.{nth}
 use Rattle.std.specs.Text.{digitValue}
@@ -20,38 +20,13 @@ use Rattle.grammar.specs.Pieces.{Care, shape, Kept, Exactly, Followed, Numeral
 use Rattle.grammar.proofs.Agreement.{AtByte, Agrees}
 use Rattle.grammar.proofs.Agreeing.{Any, Via, agrees-same, agrees-as, agrees-then, agrees-done, byte-then}
 use Rattle.grammar.proofs.Choosing.{agrees-choice, agrees-unless, agrees-never}
+use Rattle.grammar.proofs.Following.{followed-map, regroup, ungroup, ended, unended}
 use Rattle.grammar.proofs.Keeping.{kept-map, kept-fact, kept-three}
 use Rattle.grammar.proofs.Numbers.{number-agrees}
 
 -- a text that does not begin with a digit
 abbrev pub NoDigit : List ℕ → Type 0
 NoDigit rest = digitOf (nth rest 0) ≡ None
-
--- two pieces of a sequence, bracketed the other way
-pub regroup : (A B C : List ℕ → Type 0) (text : List ℕ) → Followed A (Followed B C) text → Followed (Followed A B) C text
-regroup A B C text f =
-    let g = f .second in
-    record {
-      front = f .front ++ g .front;
-      back = g .back;
-      whole = f .whole ∙ ap (λ t. f .front ++ t) (g .whole) ∙ sym (append-assoc (f .front) (g .front) (g .back));
-      first = record { front = f .front; back = g .front; whole = refl; first = f .first; second = g .first };
-      second = g .second;
-    }
-
-pub ungroup : (A B C : List ℕ → Type 0) (text : List ℕ) → Followed (Followed A B) C text → Followed A (Followed B C) text
-ungroup A B C text f =
-    let g = f .first in
-    record {
-      front = g .front;
-      back = g .back ++ f .back;
-      whole = f .whole ∙ ap (λ t. t ++ f .back) (g .whole) ∙ append-assoc (g .front) (g .back) (f .back);
-      first = g .first;
-      second = record { front = g .back; back = f .back; whole = refl; first = g .second; second = f .second };
-    }
-
-pub followed-map : (A B C D : List ℕ → Type 0) (text : List ℕ) → ((t : List ℕ) → A t → C t) → ((t : List ℕ) → B t → D t) → Followed A B text → Followed C D text
-followed-map A B C D text f g h = record { front = h .front; back = h .back; whole = h .whole; first = f (h .front) (h .first); second = g (h .back) (h .second) }
 
 pub numeral-shaped : (c : Care) (limit n : ℕ) (text : List ℕ) → Numeral c limit n text → Numeral shape limit n text
 numeral-shaped c limit n text h = record { digits = h .digits; some = h .some; few = h .few; means = h .means; within = tt; plainly = tt }
@@ -73,13 +48,6 @@ starts-digit c limit n (b ∷ text) rest h = ne-eqb b 41 (λ e. not-digit b e (h
 -- no test is both passed and failed
 pub clash : (b : Bool) → b ≡ true → b ≡ false → ⊥
 clash b t f = let z : _≡_ {A = ℕ} 0 1 = cc in absurd (omega arith)
-
--- a piece and then nothing more
-pub ended : (A : List ℕ → Type 0) (P : Type 0) (text : List ℕ) → Followed A (λ p. P × (p ≡ [])) text → A text
-ended A P text f = subst A (sym (f .whole ∙ ap (λ t. f .front ++ t) (f .second .1) ∙ append-nil (f .front))) (f .first)
-
-pub unended : (A : List ℕ → Type 0) (P : Type 0) (text : List ℕ) → P → A text → Followed A (λ p. P × (p ≡ [])) text
-unended A P text x a = record { front = text; back = []; whole = sym (append-nil text); first = a; second = (x, refl) }
 
 -- what is known so far, with one more number; two tests that refuse it, and their faults
 module _ {A : Type 0} (limit : ℕ) (add : A → ℕ → A) (first second : A → ℕ → Bool) (fault fault2 : ℕ → A → ℕ → Fault) where

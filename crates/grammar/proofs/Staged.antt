@@ -21,22 +21,20 @@ use Rattle.text.specs.declared.reader.Stage.the-variants.{Start, Atoms, Rules, 
 use Rattle.grammar.specs.Pieces.{Care, Exactly, Followed}
 use Rattle.grammar.specs.Grammar.{OrderForm, Numbered, Declared, Body}
 use Rattle.grammar.proofs.Agreement.{Agrees}
-use Rattle.grammar.proofs.Agreeing.{Any, agrees-same, agrees-as, agrees-done, byte-then-at, word-then, word-to, word-from}
+use Rattle.grammar.proofs.Agreeing.{Any, agrees-same, agrees-as, agrees-done, byte-then-at, word-then}
 use Rattle.grammar.proofs.Choosing.{agrees-choice}
 use Rattle.grammar.proofs.Dispatch.{afterAtom, afterRule, afterVoid, afterEnd, start-same, rules-same, atoms-same}
+use Rattle.grammar.proofs.Following.{under, regroup, ungroup, ended, unended, word-to, word-from}
 use Rattle.grammar.proofs.Formed.{Parts}
 use Rattle.grammar.proofs.Forms.{RuleRest, rule-rest, rule-rest-agrees, VoidRest, void-rest, void-rest-agrees, EndRest, end-rest-agrees, AtomRest, atom-rest, atom-rest-agrees}
 use Rattle.grammar.proofs.Lines.{LateForm, FormAt}
-use Rattle.grammar.proofs.Lists.{NoDigit, ended, unended, regroup, ungroup, followed-map}
+use Rattle.grammar.proofs.Lists.{NoDigit}
 use Rattle.grammar.proofs.Rests.{Going}
 
 -- the parts of a rule and the end of its form, bracketed as the grammar has them
 abbrev Closing : Care → ℕ → Rule → List ℕ → Type 0
 Closing c atoms r =
     Followed (Exactly space) (Followed (Declared c atoms (r .head)) (Followed (Exactly space) (Followed (Body c atoms (r .positives)) (Followed (Exactly space) (Followed (Body c atoms (r .negatives)) (Exactly closing))))))
-
-under : (A B C : List ℕ → Type 0) (text : List ℕ) → ((t : List ℕ) → B t → C t) → Followed A B text → Followed A C text
-under A B C text f h = followed-map A B A C text (λ t a. a) f h
 
 parts-open : (c : Care) (atoms : ℕ) (r : Rule) (text : List ℕ) → Followed (Parts c atoms r) (Exactly closing) text → Closing c atoms r text
 parts-open c atoms r text h =

@@ -13,7 +13,8 @@ use Rattle.grammar.specs.Pieces.{Care, Exactly, Followed, Numeral}
 use Rattle.grammar.specs.Stamps.{TickSpelt, PairSpelt}
 use Rattle.grammar.proofs.Agreement.{Agrees}
 use Rattle.grammar.proofs.Agreeing.{Any, Via, agrees-as, agrees-then, agrees-done, byte-then}
-use Rattle.grammar.proofs.Lists.{NoDigit, ended, unended}
+use Rattle.grammar.proofs.Following.{ended, unended}
+use Rattle.grammar.proofs.Lists.{NoDigit}
 use Rattle.grammar.proofs.Numbers.{number-agrees}
 
 abbrev Ticked : Care → ℕ → List ℕ → Type 0
