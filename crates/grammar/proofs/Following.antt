@@ -3,6 +3,8 @@ use Prim.Native.Nat.{ℕ}
 use mathlib.Core.List.{List, [], _∷_, _++_}
 use mathlib.Core.Path.{_≡_, refl, sym, ap, _∙_, subst}
 use Rattle.std.proofs.shelf.Lists.{append-assoc, append-nil}
+use Rattle.std.specs.Finite.{nth}
+use Rattle.std.specs.declared.option.Option.the-variants.{Some}
 use Rattle.grammar.specs.Pieces.{Exactly, Followed}
 
 -- a piece and then another
@@ -59,3 +61,7 @@ word-to b word A piece f =
 pub word-from : (b : ℕ) (word : List ℕ) (A : List ℕ → Type 0) (piece : List ℕ) → Followed (Exactly (b ∷ word)) A piece → Followed (Exactly (b ∷ [])) (Followed (Exactly word) A) piece
 word-from b word A piece f =
     record { front = b ∷ []; back = word ++ f .back; whole = f .whole ∙ ap (λ t. t ++ f .back) (f .first); first = refl; second = record { front = word; back = f .back; whole = refl; first = refl; second = f .second } }
+
+-- a piece that begins with a word begins with its first byte
+pub first-of : (b : ℕ) (word : List ℕ) (A : List ℕ → Type 0) (piece rest : List ℕ) → Followed (Exactly (b ∷ word)) A piece → nth (piece ++ rest) 0 ≡ Some b
+first-of b word A piece rest f = ap (λ t. nth (t ++ rest) 0) (f .whole ∙ ap (λ t. t ++ f .back) (f .first))

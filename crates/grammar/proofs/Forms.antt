@@ -5,7 +5,6 @@ use mathlib.Core.List.{List, [], _∷_, _++_}
 use mathlib.Core.Path.{_≡_, refl, ap, _∙_}
 use lib.Dec.{leb}
 use Rattle.std.proofs.shelf.Tests.{leb-false, lt-leb}
-use Rattle.std.specs.Finite.{nth}
 use Rattle.std.specs.declared.option.Option.the-variants.{Some, None}
 use Rattle.std.specs.declared.result.Result.{Result}
 use Rattle.std.specs.declared.result.Result.the-variants.{Ok}
@@ -25,14 +24,14 @@ use Rattle.grammar.specs.Grammar.{Numbered}
 use Rattle.grammar.proofs.Agreement.{Agrees}
 use Rattle.grammar.proofs.Agreeing.{Any, Via, agrees-as, agrees-then, agrees-done, byte-then, word-then}
 use Rattle.grammar.proofs.Choosing.{agrees-unless}
-use Rattle.grammar.proofs.Following.{ended, unended, word-to, word-from}
+use Rattle.grammar.proofs.Following.{ended, unended, word-to, word-from, first-of, ungroup}
 use Rattle.grammar.proofs.Formed.{Parts, kind-agrees, numbered-then, rule-agrees}
 use Rattle.grammar.proofs.Keeping.{kept-map}
 use Rattle.grammar.proofs.Lists.{NoDigit}
 
 -- where a piece begins with a byte that is no digit
 pub starts : (b : ℕ) (word : List ℕ) (A : List ℕ → Type 0) (piece rest : List ℕ) → digitOf (Some b) ≡ None → Followed (Exactly (b ∷ word)) A piece → NoDigit (piece ++ rest)
-starts b word A piece rest e f = ap (λ t. digitOf (nth (t ++ rest) 0)) (f .whole ∙ ap (λ t. t ++ f .back) (f .first)) ∙ e
+starts b word A piece rest e f = ap digitOf (first-of _ _ _ piece rest f) ∙ e
 
 module _ (S : Type 0) (room : Room) (atoms rules : ℕ) where
   -- the end of a form that says this
@@ -72,10 +71,7 @@ module _ (S : Type 0) (room : Room) (atoms rules : ℕ) where
       (kept-map c (lt-leb (room .rules) rules) k, record { front = f .front; back = f .back; whole = f .whole; first = f .first; second = record { value = r; parts = record { front = g .front; back = g .back; whole = g .whole; first = g .first; second = unended (Exactly closing) (y ≡ ruleLine (Some r)) (g .back) e (g .second) } } })
 
   said-stops : (c : Care) (y : Line S) (piece rest : List ℕ) → RuleSaid c y piece → NoDigit (piece ++ rest)
-  said-stops c y piece rest v =
-      let g = v .parts in
-      let f = g .first in
-      ap (λ t. digitOf (nth (t ++ rest) 0)) (g .whole ∙ ap (λ t. t ++ g .back) (f .whole ∙ ap (λ t. t ++ f .back) (f .first)))
+  said-stops c y piece rest v = ap digitOf (first-of _ _ _ piece rest (ungroup _ _ _ piece (v .parts)))
 
   pub rule-rest-agrees : (at : ℕ) → Agrees (rule-rest at) RuleRest Any
   rule-rest-agrees at =

@@ -20,7 +20,7 @@ use Rattle.grammar.specs.Pieces.{Care, shape, Kept, Exactly, Followed, Numeral
 use Rattle.grammar.proofs.Agreement.{AtByte, Agrees}
 use Rattle.grammar.proofs.Agreeing.{Any, Via, agrees-same, agrees-as, agrees-then, agrees-done, byte-then}
 use Rattle.grammar.proofs.Choosing.{agrees-choice, agrees-unless, agrees-never}
-use Rattle.grammar.proofs.Following.{followed-map, regroup, ungroup, ended, unended}
+use Rattle.grammar.proofs.Following.{followed-map, regroup, ungroup, ended, unended, first-of}
 use Rattle.grammar.proofs.Keeping.{kept-map, kept-fact, kept-three}
 use Rattle.grammar.proofs.Numbers.{number-agrees}
 
@@ -150,8 +150,8 @@ module _ {A : Type 0} (limit : ℕ) (add : A → ℕ → A) (first second : A �
 
   -- a space or a bracket is no digit
   tested-stops : (c : Care) (s : A) (v : ℕ) (t : A) (piece rest : List ℕ) → Tested s v c t piece → NoDigit (piece ++ rest)
-  tested-stops c s v t piece rest (k, (l, inl f)) = ap (λ p. digitOf (nth (p ++ rest) 0)) (f .whole ∙ ap (λ p. p ++ f .back) (f .first))
-  tested-stops c s v t piece rest (k, (l, inr f)) = ap (λ p. digitOf (nth (p ++ rest) 0)) (f .whole ∙ ap (λ p. p ++ f .back) (f .first))
+  tested-stops c s v t piece rest (k, (l, inl f)) = ap digitOf (first-of _ _ _ piece rest f)
+  tested-stops c s v t piece rest (k, (l, inr f)) = ap digitOf (first-of _ _ _ piece rest f)
 
   -- a whole list of numbers, none of which is refused
   pub record Bracketed (c : Care) (s t : A) (text : List ℕ) : Type 0 where
@@ -198,8 +198,8 @@ module _ {A : Type 0} (limit : ℕ) (add : A → ℕ → A) (first second : A �
         agrees-choice 32 (λ text at. andThen (passAt 32 text at) (next text)) (λ text at. andThen (passAt 41 text at) (λ m. Ok (s, m))) _ _ Any
         (byte-then 32 next (λ c t. Tail c s t) Any a)
         (byte-then 41 (λ text at. Ok (s, at)) (λ c t p. (t ≡ s) × (p ≡ [])) Any (agrees-done s Any))
-        (λ c t piece rest f. ap (λ p. isByte 32 (nth (p ++ rest) 0)) (f .whole ∙ ap (λ p. p ++ f .back) (f .first)))
-        (λ c t piece rest f. ap (λ p. isByte 32 (nth (p ++ rest) 0)) (f .whole ∙ ap (λ p. p ++ f .back) (f .first)))
+        (λ c t piece rest f. ap (isByte 32) (first-of _ _ _ piece rest f))
+        (λ c t piece rest f. ap (isByte 32) (first-of _ _ _ piece rest f))
 
     -- where one of the tests refuses the number, no piece keeps the rules
     refused-agrees : (next : List ℕ → ℕ → Result (A × ℕ) Fault) (at : ℕ) (s : A) (v : ℕ) → (first s v ≡ true) ⊎ (second s v ≡ true) → Agrees (tested next at s v) (Tested s v) Any
@@ -245,5 +245,5 @@ module _ {A : Type 0} (limit : ℕ) (add : A → ℕ → A) (first second : A �
           (agrees-choice 41 (λ text at. andThen (passAt 41 text at) (λ k. Ok (s, k))) (run (suc n) s) _ _ Any
           (byte-then 41 (λ text at. Ok (s, at)) (λ c t p. (t ≡ s) × (p ≡ [])) Any (agrees-done s Any))
           (run-agrees n s h)
-          (λ c t piece rest f. ap (λ p. isByte 41 (nth (p ++ rest) 0)) (f .whole ∙ ap (λ p. p ++ f .back) (f .first)))
+          (λ c t piece rest f. ap (isByte 41) (first-of _ _ _ piece rest f))
           (λ c t piece rest tail. tail-no-bracket c s t piece rest tail)))

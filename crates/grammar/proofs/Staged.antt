@@ -24,7 +24,7 @@ use Rattle.grammar.proofs.Agreement.{Agrees}
 use Rattle.grammar.proofs.Agreeing.{Any, agrees-same, agrees-as, agrees-done, byte-then-at, word-then}
 use Rattle.grammar.proofs.Choosing.{agrees-choice}
 use Rattle.grammar.proofs.Dispatch.{afterAtom, afterRule, afterVoid, afterEnd, start-same, rules-same, atoms-same}
-use Rattle.grammar.proofs.Following.{under, regroup, ungroup, ended, unended, word-to, word-from}
+use Rattle.grammar.proofs.Following.{under, regroup, ungroup, ended, unended, word-to, word-from, first-of}
 use Rattle.grammar.proofs.Formed.{Parts}
 use Rattle.grammar.proofs.Forms.{RuleRest, rule-rest, rule-rest-agrees, VoidRest, void-rest, void-rest-agrees, EndRest, end-rest-agrees, AtomRest, atom-rest, atom-rest-agrees}
 use Rattle.grammar.proofs.Lines.{LateForm, FormAt}
@@ -84,10 +84,6 @@ module _ {S : Type 0} (stampAt : List ℕ → ℕ → Result (S × ℕ) Fault) (
   abbrev AtomAfter : Care → Line S → List ℕ → Type 0
   AtomAfter c y = Followed (Exactly atomWord) (AtomRest S room atoms rules stampAt spells stamps c y)
 
-  -- a choice by the first byte of a word
-  first-byte : (byte b : ℕ) (rest : List ℕ) (A : List ℕ → Type 0) (piece more : List ℕ) → Followed (Exactly (b ∷ rest)) A piece → isByte byte (nth (piece ++ more) 0) ≡ isByte byte (Some b)
-  first-byte byte b rest A piece more f = ap (λ t. isByte byte (nth (t ++ more) 0)) (f .whole ∙ ap (λ t. t ++ f .back) (f .first))
-
   late-reader : ℕ → List ℕ → ℕ → Result (Line S × ℕ) Fault
   late-reader at text m = cond (isByte 114 (nth text m)) (afterRule stampAt word room atoms rules at text m) (cond (isByte 118 (nth text m)) (afterVoid stampAt word room atoms rules at text m) (afterEnd stampAt word room atoms rules text m))
 
@@ -99,13 +95,13 @@ module _ {S : Type 0} (stampAt : List ℕ → ℕ → Result (S × ℕ) Fault) (
       (agrees-choice 118 (afterVoid stampAt word room atoms rules at) (afterEnd stampAt word room atoms rules) VoidAfter EndAfter Any
       (word-then voidWord (void-rest S room atoms rules at) (VoidRest S room atoms rules) Any (void-rest-agrees S room atoms rules at))
       (end-rest-agrees S room atoms rules)
-      (λ c y piece more f. first-byte 118 118 (111 ∷ 105 ∷ 100 ∷ 32 ∷ []) (VoidRest S room atoms rules c y) piece more f)
+      (λ c y piece more f. ap (isByte 118) (first-of _ _ _ piece more f))
       (λ c y piece more e. ap (λ t. isByte 118 (nth (t ++ more) 0)) (e .1)))
-      (λ c y piece more f. first-byte 114 114 (117 ∷ 108 ∷ 101 ∷ 32 ∷ []) (RuleRest S room atoms rules c y) piece more f)
+      (λ c y piece more f. ap (isByte 114) (first-of _ _ _ piece more f))
       no-rule
     where
       no-rule : (c : Care) (y : Line S) (piece more : List ℕ) → VoidAfter c y piece ⊎ EndAfter c y piece → isByte 114 (nth (piece ++ more) 0) ≡ isByte 114 (Some 118)
-      no-rule c y piece more (inl f) = first-byte 114 118 (111 ∷ 105 ∷ 100 ∷ 32 ∷ []) (VoidRest S room atoms rules c y) piece more f
+      no-rule c y piece more (inl f) = ap (isByte 114) (first-of _ _ _ piece more f)
       no-rule c y piece more (inr e) = ap (λ t. isByte 114 (nth (t ++ more) 0)) (e .1)
 
   -- a bracket and then a form's word are its opening
@@ -157,12 +153,12 @@ module _ {S : Type 0} (stampAt : List ℕ → ℕ → Result (S × ℕ) Fault) (
       agrees-choice 97 (afterAtom stampAt word room atoms rules at) (late-reader at) AtomAfter Late Any
       (word-then atomWord (atom-rest S room atoms rules stampAt spells stamps at) (AtomRest S room atoms rules stampAt spells stamps) Any (atom-rest-agrees S room atoms rules stampAt spells stamps at))
       (late-agrees at)
-      (λ c y piece more f. first-byte 97 97 (116 ∷ 111 ∷ 109 ∷ 32 ∷ []) (AtomRest S room atoms rules stampAt spells stamps c y) piece more f)
+      (λ c y piece more f. ap (isByte 97) (first-of _ _ _ piece more f))
       no-atom
     where
       no-atom : (c : Care) (y : Line S) (piece more : List ℕ) → Late c y piece → isByte 97 (nth (piece ++ more) 0) ≡ isByte 97 (Some 114)
-      no-atom c y piece more (inl f) = first-byte 97 114 (117 ∷ 108 ∷ 101 ∷ 32 ∷ []) (RuleRest S room atoms rules c y) piece more f
-      no-atom c y piece more (inr (inl f)) = first-byte 97 118 (111 ∷ 105 ∷ 100 ∷ 32 ∷ []) (VoidRest S room atoms rules c y) piece more f
+      no-atom c y piece more (inl f) = ap (isByte 97) (first-of _ _ _ piece more f)
+      no-atom c y piece more (inr (inl f)) = ap (isByte 97) (first-of _ _ _ piece more f)
       no-atom c y piece more (inr (inr e)) = ap (λ t. isByte 97 (nth (t ++ more) 0)) (e .1)
 
   -- what is allowed among rules is allowed among atoms
