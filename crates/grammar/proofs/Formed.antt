@@ -29,8 +29,7 @@ use Rattle.grammar.proofs.Bodies.{body-agrees}
 use Rattle.grammar.proofs.Choosing.{agrees-choice, agrees-unless}
 use Rattle.grammar.proofs.Following.{ended, unended, first-of}
 use Rattle.grammar.proofs.Keeping.{kept-map}
-use Rattle.grammar.proofs.Lists.{NoDigit}
-use Rattle.grammar.proofs.Numbers.{number-agrees}
+use Rattle.grammar.proofs.Numbers.{number-agrees, NoDigit}
 
 abbrev Known : Site → ℕ → Care → ℕ → List ℕ → Type 0
 Known site v c n piece = Kept c (leb (site .atoms) v ≡ false) × ((n ≡ v) × (piece ≡ []))

@@ -27,7 +27,7 @@ use Rattle.grammar.proofs.Choosing.{agrees-unless}
 use Rattle.grammar.proofs.Following.{ended, unended, word-to, word-from, first-of, ungroup}
 use Rattle.grammar.proofs.Formed.{Parts, kind-agrees, numbered-then, rule-agrees}
 use Rattle.grammar.proofs.Keeping.{kept-map}
-use Rattle.grammar.proofs.Lists.{NoDigit}
+use Rattle.grammar.proofs.Numbers.{NoDigit}
 
 -- where a piece begins with a byte that is no digit
 pub starts : (b : ℕ) (word : List ℕ) (A : List ℕ → Type 0) (piece rest : List ℕ) → digitOf (Some b) ≡ None → Followed (Exactly (b ∷ word)) A piece → NoDigit (piece ++ rest)

@@ -26,7 +26,7 @@ use Rattle.grammar.proofs.Aisled.{route-agrees}
 use Rattle.grammar.proofs.Books.{book-canonical, book-unique, spelt-held, spelt-gapless, plain-kept, tick-plain-kept, pair-plain-kept, route-plain-kept}
 use Rattle.grammar.proofs.Canonical.{tick-canonical, tick-unique, tick-fits, pair-canonical, pair-unique, pair-fits}
 use Rattle.grammar.proofs.Lines.{FormAt}
-use Rattle.grammar.proofs.Lists.{NoDigit}
+use Rattle.grammar.proofs.Numbers.{NoDigit}
 use Rattle.grammar.proofs.Rests.{Going}
 use Rattle.grammar.proofs.Routes.{route-canonical, route-unique, route-fits}
 use Rattle.grammar.proofs.Staged.{forms-agree}

@@ -9,7 +9,6 @@ use Rattle.std.proofs.shelf.Lists.{append-assoc}
 use Rattle.std.proofs.shelf.Tests.{ne-eqb}
 use Rattle.std.specs.Finite.{nth}
 use Rattle.std.specs.Text.{digitValue}
-use Rattle.std.specs.declared.option.Option.the-variants.{None}
 use Rattle.std.specs.declared.result.Result.{Result}
 use Rattle.std.specs.declared.result.Result.the-variants.{Ok, Err}
 use Rattle.books.specs.declared.fault.Fault.{Fault}
@@ -22,14 +21,7 @@ use Rattle.grammar.proofs.Agreeing.{Any, Via, agrees-same, agrees-as, agrees-t
 use Rattle.grammar.proofs.Choosing.{agrees-choice, agrees-unless, agrees-never}
 use Rattle.grammar.proofs.Following.{followed-map, regroup, ungroup, ended, unended, first-of}
 use Rattle.grammar.proofs.Keeping.{kept-map, kept-fact, kept-three}
-use Rattle.grammar.proofs.Numbers.{number-agrees}
-
--- a text that does not begin with a digit
-abbrev pub NoDigit : List ℕ → Type 0
-NoDigit rest = digitOf (nth rest 0) ≡ None
-
-pub numeral-shaped : (c : Care) (limit n : ℕ) (text : List ℕ) → Numeral c limit n text → Numeral shape limit n text
-numeral-shaped c limit n text h = record { digits = h .digits; some = h .some; few = h .few; means = h .means; within = tt; plainly = tt }
+use Rattle.grammar.proofs.Numbers.{number-agrees, NoDigit, numeral-shaped}
 
 pub spaced-shaped : (c : Care) (limit : ℕ) (ns text : List ℕ) → Spaced c limit ns text → Spaced shape limit ns text
 spaced-shaped c limit [] text h = h

@@ -28,7 +28,7 @@ use Rattle.grammar.proofs.Following.{under, regroup, ungroup, ended, unended, 
 use Rattle.grammar.proofs.Formed.{Parts}
 use Rattle.grammar.proofs.Forms.{RuleRest, rule-rest, rule-rest-agrees, VoidRest, void-rest, void-rest-agrees, EndRest, end-rest-agrees, AtomRest, atom-rest, atom-rest-agrees}
 use Rattle.grammar.proofs.Lines.{LateForm, FormAt}
-use Rattle.grammar.proofs.Lists.{NoDigit}
+use Rattle.grammar.proofs.Numbers.{NoDigit}
 use Rattle.grammar.proofs.Rests.{Going}
 
 -- the parts of a rule and the end of its form, bracketed as the grammar has them

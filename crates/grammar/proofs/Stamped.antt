@@ -13,8 +13,7 @@ use Rattle.grammar.specs.Stamps.{TickSpelt, PairSpelt}
 use Rattle.grammar.proofs.Agreement.{Agrees}
 use Rattle.grammar.proofs.Agreeing.{Any, Via, agrees-as, agrees-then, agrees-done, byte-then}
 use Rattle.grammar.proofs.Following.{ended, unended, first-of}
-use Rattle.grammar.proofs.Lists.{NoDigit}
-use Rattle.grammar.proofs.Numbers.{number-agrees}
+use Rattle.grammar.proofs.Numbers.{number-agrees, NoDigit}
 
 abbrev Ticked : Care → ℕ → List ℕ → Type 0
 Ticked c v piece = Numeral c 4294967295 v piece
