@@ -6,6 +6,7 @@ use mathlib.Core.Logic.{inl, inr}
 use mathlib.Core.Path.{_≡_, refl, sym, ap, _∙_, subst}
 use native.Mathlib.Numerals.{add-one}
 use native.Mathlib.Omega.{arith}
+use lib.Chars.{codes}
 use lib.Dec.{eqb}
 use lib.ListN.{drop}
 use Rattle.std.proofs.shelf.Tests.{cases-eq, ne-eqb}
@@ -215,21 +216,34 @@ table-same k k' N N' A A' R R' V V' E E' p q s t u w = cc
 opening-step : (b : ℕ) (word text : List ℕ) (at : ℕ) → begins (40 ∷ b ∷ word) (drop at text) ≡ (isByte 40 (nth text at) && (isByte b (nth text (at + 1)) && begins word (drop (at + 1 + 1) text)))
 opening-step b word text at = begins-step 40 (b ∷ word) text at ∙ ap (λ u. isByte 40 (nth text at) && u) (begins-step b word text (at + 1))
 
+-- the openings after the bracket
+abbrev pub atomWord : List ℕ
+atomWord = codes "atom "
+
+abbrev pub ruleWord : List ℕ
+ruleWord = codes "rule "
+
+abbrev pub voidWord : List ℕ
+voidWord = codes "void "
+
+abbrev pub endWord : List ℕ
+endWord = codes "end)"
+
 -- the openings after the byte that tells the form
 abbrev orderRest : List ℕ
-orderRest = 114 ∷ 100 ∷ 101 ∷ 114 ∷ 32 ∷ []
+orderRest = codes "rder "
 
 abbrev atomRest : List ℕ
-atomRest = 116 ∷ 111 ∷ 109 ∷ 32 ∷ []
+atomRest = codes "tom "
 
 abbrev ruleRest : List ℕ
-ruleRest = 117 ∷ 108 ∷ 101 ∷ 32 ∷ []
+ruleRest = codes "ule "
 
 abbrev voidRest : List ℕ
-voidRest = 111 ∷ 105 ∷ 100 ∷ 32 ∷ []
+voidRest = codes "oid "
 
 abbrev endRest : List ℕ
-endRest = 110 ∷ 100 ∷ 41 ∷ []
+endRest = codes "nd)"
 
 -- whether a text begins with the byte that tells a form and the rest of the opening
 abbrev tells : List ℕ → ℕ → ℕ → List ℕ → Bool
@@ -246,7 +260,7 @@ module _ {S : Type 0} (stampAt : List ℕ → ℕ → Result (S × ℕ) Fault) (
   -- an atom after its bracket, which stands at `at`
   abbrev pub afterAtom : ℕ → List ℕ → ℕ → Result (Line S × ℕ) Fault
   afterAtom at text m =
-      andThen (passWord (97 ∷ 116 ∷ 111 ∷ 109 ∷ 32 ∷ []) text m)
+      andThen (passWord atomWord text m)
       (λ a. ifRoom at atoms (room .atoms)
       (andThen (nextNumber text atoms a)
       (λ b. andThen (passAt 32 text b)
@@ -258,7 +272,7 @@ module _ {S : Type 0} (stampAt : List ℕ → ℕ → Result (S × ℕ) Fault) (
   -- a rule after its bracket
   abbrev pub afterRule : ℕ → List ℕ → ℕ → Result (Line S × ℕ) Fault
   afterRule at text m =
-      andThen (passWord (114 ∷ 117 ∷ 108 ∷ 101 ∷ 32 ∷ []) text m)
+      andThen (passWord ruleWord text m)
       (λ a. ifRoom at rules (room .rules)
       (andThen (nextNumber text rules a)
       (λ b. andThen (ruleAt text (record { form = at; rule = rules; atoms = atoms }) b)
@@ -268,7 +282,7 @@ module _ {S : Type 0} (stampAt : List ℕ → ℕ → Result (S × ℕ) Fault) (
   -- a void rule after its bracket
   abbrev pub afterVoid : ℕ → List ℕ → ℕ → Result (Line S × ℕ) Fault
   afterVoid at text m =
-      andThen (passWord (118 ∷ 111 ∷ 105 ∷ 100 ∷ 32 ∷ []) text m)
+      andThen (passWord voidWord text m)
       (λ a. ifRoom at rules (room .rules)
       (andThen (nextNumber text rules a)
       (λ b. andThen (passWord closing text b)
@@ -276,7 +290,7 @@ module _ {S : Type 0} (stampAt : List ℕ → ℕ → Result (S × ℕ) Fault) (
 
   -- the end after its bracket
   abbrev pub afterEnd : List ℕ → ℕ → Result (Line S × ℕ) Fault
-  afterEnd text m = andThen (passWord (101 ∷ 110 ∷ 100 ∷ 41 ∷ []) text m) (λ a. andThen (passAt 10 text a) (λ next. Ok (endLine, next)))
+  afterEnd text m = andThen (passWord endWord text m) (λ a. andThen (passAt 10 text a) (λ next. Ok (endLine, next)))
 
   -- at the start only an order is allowed
   pub start-same : (text : List ℕ) (at : ℕ) → orderAt word text at ≡ formAt stampAt word text room (record { stage = Start; next = at; atoms = atoms; rules = rules })

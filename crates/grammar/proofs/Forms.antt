@@ -3,6 +3,7 @@ use Prim.Native.Nat.{ℕ, _+_, _<_}
 use mathlib.Core.Bool.{Bool, true, false, cond}
 use mathlib.Core.List.{List, [], _∷_, _++_}
 use mathlib.Core.Path.{_≡_, refl, ap, _∙_}
+use lib.Chars.{codes}
 use lib.Dec.{leb}
 use Rattle.std.proofs.shelf.Tests.{leb-false, lt-leb}
 use Rattle.std.specs.declared.option.Option.the-variants.{Some, None}
@@ -24,6 +25,7 @@ use Rattle.grammar.specs.Grammar.{Numbered}
 use Rattle.grammar.proofs.Agreement.{Agrees}
 use Rattle.grammar.proofs.Agreeing.{Any, Via, agrees-as, agrees-then, agrees-done, byte-then, word-then}
 use Rattle.grammar.proofs.Choosing.{agrees-unless}
+use Rattle.grammar.proofs.Dispatch.{endWord}
 use Rattle.grammar.proofs.Following.{ended, unended, word-to, word-from, first-of, ungroup}
 use Rattle.grammar.proofs.Formed.{Parts, kind-agrees, numbered-then, rule-agrees}
 use Rattle.grammar.proofs.Keeping.{kept-map}
@@ -110,24 +112,24 @@ module _ (S : Type 0) (room : Room) (atoms rules : ℕ) where
 
   -- the end, from the byte after its bracket on
   abbrev pub EndRest : Care → Line S → List ℕ → Type 0
-  EndRest c y text = (y ≡ endLine) × Exactly (101 ∷ 110 ∷ 100 ∷ 41 ∷ 10 ∷ []) text
+  EndRest c y text = (y ≡ endLine) × Exactly (codes "end)\n") text
 
   abbrev pub end-rest : List ℕ → ℕ → Result (Line S × ℕ) Fault
-  end-rest text m = andThen (passWord (101 ∷ 110 ∷ 100 ∷ 41 ∷ []) text m) (λ a. andThen (passAt 10 text a) (λ next. Ok (endLine, next)))
+  end-rest text m = andThen (passWord endWord text m) (λ a. andThen (passAt 10 text a) (λ next. Ok (endLine, next)))
 
   pub end-rest-agrees : Agrees end-rest EndRest Any
   end-rest-agrees =
       agrees-as end-rest _ EndRest Any to from
-      (word-then (101 ∷ 110 ∷ 100 ∷ 41 ∷ []) (λ text a. andThen (passAt 10 text a) (λ next. Ok (endLine, next))) (λ c y. Followed (Exactly (10 ∷ [])) (λ p. (y ≡ endLine) × (p ≡ []))) Any
+      (word-then endWord (λ text a. andThen (passAt 10 text a) (λ next. Ok (endLine, next))) (λ c y. Followed (Exactly (10 ∷ [])) (λ p. (y ≡ endLine) × (p ≡ []))) Any
       (byte-then 10 (λ text m. Ok (endLine, m)) (λ c y p. (y ≡ endLine) × (p ≡ [])) Any (agrees-done endLine Any)))
     where
-      to : (c : Care) (y : Line S) (text : List ℕ) → Followed (Exactly (101 ∷ 110 ∷ 100 ∷ 41 ∷ [])) (Followed (Exactly (10 ∷ [])) (λ p. (y ≡ endLine) × (p ≡ []))) text → EndRest c y text
+      to : (c : Care) (y : Line S) (text : List ℕ) → Followed (Exactly endWord) (Followed (Exactly (10 ∷ [])) (λ p. (y ≡ endLine) × (p ≡ []))) text → EndRest c y text
       to c y text f =
-          (f .second .second .0, f .whole ∙ ap (λ t. t ++ f .back) (f .first) ∙ ap (λ t. 101 ∷ 110 ∷ 100 ∷ 41 ∷ t) (ended (Exactly (10 ∷ [])) (y ≡ endLine) (f .back) (f .second)))
+          (f .second .second .0, f .whole ∙ ap (λ t. t ++ f .back) (f .first) ∙ ap (λ t. endWord ++ t) (ended (Exactly (10 ∷ [])) (y ≡ endLine) (f .back) (f .second)))
 
-      from : (c : Care) (y : Line S) (text : List ℕ) → EndRest c y text → Followed (Exactly (101 ∷ 110 ∷ 100 ∷ 41 ∷ [])) (Followed (Exactly (10 ∷ [])) (λ p. (y ≡ endLine) × (p ≡ []))) text
+      from : (c : Care) (y : Line S) (text : List ℕ) → EndRest c y text → Followed (Exactly endWord) (Followed (Exactly (10 ∷ [])) (λ p. (y ≡ endLine) × (p ≡ []))) text
       from c y text (e, t) =
-          record { front = 101 ∷ 110 ∷ 100 ∷ 41 ∷ []; back = 10 ∷ []; whole = t; first = refl; second = unended (Exactly (10 ∷ [])) (y ≡ endLine) (10 ∷ []) e refl }
+          record { front = endWord; back = 10 ∷ []; whole = t; first = refl; second = unended (Exactly (10 ∷ [])) (y ≡ endLine) (10 ∷ []) e refl }
 
   -- an atom, from its number on
   module _ (stampAt : List ℕ → ℕ → Result (S × ℕ) Fault) (spells : Care → S → List ℕ → Type 0) (stamps : Agrees stampAt spells NoDigit) where

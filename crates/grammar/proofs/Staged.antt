@@ -4,6 +4,7 @@ use mathlib.Core.Bool.{cond}
 use mathlib.Core.List.{List, [], _∷_, _++_}
 use mathlib.Core.Logic.{_⊎_, inl, inr}
 use mathlib.Core.Path.{_≡_, refl, sym, ap, _∙_, subst}
+use lib.Chars.{codes}
 use Rattle.std.specs.Finite.{nth}
 use Rattle.std.specs.declared.option.Option.the-variants.{Some, None}
 use Rattle.std.specs.declared.result.Result.{Result}
@@ -23,7 +24,7 @@ use Rattle.grammar.specs.Grammar.{OrderForm, Numbered, Declared, Body}
 use Rattle.grammar.proofs.Agreement.{Agrees}
 use Rattle.grammar.proofs.Agreeing.{Any, agrees-same, agrees-as, agrees-done, byte-then-at, word-then}
 use Rattle.grammar.proofs.Choosing.{agrees-choice}
-use Rattle.grammar.proofs.Dispatch.{afterAtom, afterRule, afterVoid, afterEnd, start-same, rules-same, atoms-same}
+use Rattle.grammar.proofs.Dispatch.{atomWord, ruleWord, voidWord, afterAtom, afterRule, afterVoid, afterEnd, start-same, rules-same, atoms-same}
 use Rattle.grammar.proofs.Following.{under, regroup, ungroup, ended, unended, word-to, word-from, first-of}
 use Rattle.grammar.proofs.Formed.{Parts}
 use Rattle.grammar.proofs.Forms.{RuleRest, rule-rest, rule-rest-agrees, VoidRest, void-rest, void-rest-agrees, EndRest, end-rest-agrees, AtomRest, atom-rest, atom-rest-agrees}
@@ -57,16 +58,6 @@ parts-shut c atoms r text h =
     (under _ _ _ u (λ v j.
     regroup (Body c atoms (r .positives)) (Followed (Exactly space) (Body c atoms (r .negatives))) (Exactly closing) v
     (under _ _ _ v (λ w k. regroup (Exactly space) (Body c atoms (r .negatives)) (Exactly closing) w k) j)) i)) g)) h)
-
--- "rule ", "void " and "atom ", as they stand after the bracket
-abbrev ruleWord : List ℕ
-ruleWord = 114 ∷ 117 ∷ 108 ∷ 101 ∷ 32 ∷ []
-
-abbrev voidWord : List ℕ
-voidWord = 118 ∷ 111 ∷ 105 ∷ 100 ∷ 32 ∷ []
-
-abbrev atomWord : List ℕ
-atomWord = 97 ∷ 116 ∷ 111 ∷ 109 ∷ 32 ∷ []
 
 module _ {S : Type 0} (stampAt : List ℕ → ℕ → Result (S × ℕ) Fault) (word : List ℕ) (spells : Care → S → List ℕ → Type 0) (room : Room) (stamps : Agrees stampAt spells NoDigit) (atoms rules : ℕ) where
   abbrev RuleAfter : Care → Line S → List ℕ → Type 0
@@ -135,7 +126,7 @@ module _ {S : Type 0} (stampAt : List ℕ → ℕ → Result (S × ℕ) Fault) (
       let body = under (Numbered c rules) (Closing c atoms r) (Followed (Parts c atoms r) (Exactly closing)) (g .back) (parts-shut c atoms r) (g .second) in
       record { front = f .front; back = f .back; whole = f .whole; first = f .first; second = inl (record { front = g .front; back = g .back; whole = g .whole; first = g .first; second = (r, refl, h .0, body) }) }
   late-from c endLine text h =
-      record { front = 40 ∷ []; back = 101 ∷ 110 ∷ 100 ∷ 41 ∷ 10 ∷ []; whole = h; first = refl; second = inr (inr (refl, refl)) }
+      record { front = 40 ∷ []; back = codes "end)\n"; whole = h; first = refl; second = inr (inr (refl, refl)) }
 
   rules-agree : Agrees (λ text at. formAt stampAt word text room (record { stage = Rules; next = at; atoms = atoms; rules = rules })) (FormAt word spells room Rules atoms rules) Any
   unfolding late-reader
