@@ -14,7 +14,7 @@ use Rattle.books.specs.declared.fault.ReadFault.the-variants.{TooMany}
 use Rattle.books.specs.declared.fault.Fault.{Fault}
 use Rattle.books.specs.declared.fault.Fault.the-variants.{Reading}
 use Rattle.text.specs.Bytes.{andThen, passAt}
-use Rattle.text.specs.Forms.{Line, atomLine, ruleLine, endLine, closing, nextNumber, ifRoom, readingAt, inWord, outWord}
+use Rattle.text.specs.Forms.{Line, atomLine, ruleLine, endLine, closing, readingAt, inWord, outWord}
 use Rattle.text.specs.Numbers.{digitOf}
 use Rattle.text.specs.Rules.{ruleAt}
 use Rattle.text.specs.Spelt.{kindText}
@@ -25,7 +25,7 @@ use Rattle.grammar.specs.Grammar.{Numbered}
 use Rattle.grammar.proofs.Agreement.{Agrees}
 use Rattle.grammar.proofs.Agreeing.{Any, Via, agrees-as, agrees-then, agrees-done, byte-then, word-then}
 use Rattle.grammar.proofs.Choosing.{agrees-unless}
-use Rattle.grammar.proofs.Dispatch.{endWord}
+use Rattle.grammar.proofs.Dispatch.{endWord, rule-rest, void-rest, end-rest, atom-rest}
 use Rattle.grammar.proofs.Following.{ended, unended, word-to, word-from, first-of, ungroup}
 use Rattle.grammar.proofs.Formed.{Parts, kind-agrees, numbered-then, rule-agrees}
 use Rattle.grammar.proofs.Keeping.{kept-map}
@@ -53,14 +53,6 @@ module _ (S : Type 0) (room : Room) (atoms rules : ℕ) where
   abbrev RuleSaid : Care → Line S → List ℕ → Type 0
   RuleSaid = Via (λ c r text. Parts c atoms r text) (λ r. Closed (ruleLine (Some r)))
 
-  abbrev pub rule-rest : ℕ → List ℕ → ℕ → Result (Line S × ℕ) Fault
-  rule-rest at text a =
-      ifRoom at rules (room .rules)
-      (andThen (nextNumber text rules a)
-      (λ b. andThen (ruleAt text (record { form = at; rule = rules; atoms = atoms }) b)
-      (λ p. andThen (passWord closing text (p .1))
-      (λ next. Ok (ruleLine (Some (p .0)), next)))))
-
   rule-to : (c : Care) (y : Line S) (text : List ℕ) → Kept c (leb (room .rules) rules ≡ false) × Followed (Numbered c rules) (RuleSaid c y) text → RuleRest c y text
   rule-to c y text (k, f) =
       let v = f .second in
@@ -75,9 +67,9 @@ module _ (S : Type 0) (room : Room) (atoms rules : ℕ) where
   said-stops : (c : Care) (y : Line S) (piece rest : List ℕ) → RuleSaid c y piece → NoDigit (piece ++ rest)
   said-stops c y piece rest v = ap digitOf (first-of _ _ _ piece rest (ungroup _ _ _ piece (v .parts)))
 
-  pub rule-rest-agrees : (at : ℕ) → Agrees (rule-rest at) RuleRest Any
+  pub rule-rest-agrees : (at : ℕ) → Agrees (rule-rest S room atoms rules at) RuleRest Any
   rule-rest-agrees at =
-      agrees-as (rule-rest at) _ RuleRest Any rule-to rule-from
+      agrees-as (rule-rest S room atoms rules at) _ RuleRest Any rule-to rule-from
       (agrees-unless (Reading (TooMany at)) tt _ (λ c y. Followed (Numbered c rules) (RuleSaid c y)) Any
       (numbered-then rules (λ text b. andThen (ruleAt text (record { form = at; rule = rules; atoms = atoms }) b) (λ p. andThen (passWord closing text (p .1)) (λ next. Ok (ruleLine (Some (p .0)), next)))) RuleSaid Any
       (agrees-then (λ text b. ruleAt text (record { form = at; rule = rules; atoms = atoms }) b) (λ b r text m. andThen (passWord closing text m) (λ next. Ok (ruleLine (Some r), next))) (λ c r text. Parts c atoms r text) (λ r. Closed (ruleLine (Some r))) Any Any (rule-agrees (record { form = at; rule = rules; atoms = atoms })) (λ b r. closed-agrees (ruleLine (Some r))) (λ c r y piece rest g s. tt))
@@ -88,13 +80,6 @@ module _ (S : Type 0) (room : Room) (atoms rules : ℕ) where
   abbrev pub VoidRest : Care → Line S → List ℕ → Type 0
   VoidRest c y text = (y ≡ ruleLine None) × Kept c (rules < room .rules) × Followed (Numbered c rules) (Exactly closing) text
 
-  abbrev pub void-rest : ℕ → List ℕ → ℕ → Result (Line S × ℕ) Fault
-  void-rest at text a =
-      ifRoom at rules (room .rules)
-      (andThen (nextNumber text rules a)
-      (λ b. andThen (passWord closing text b)
-      (λ next. Ok (ruleLine None, next))))
-
   void-to : (c : Care) (y : Line S) (text : List ℕ) → Kept c (leb (room .rules) rules ≡ false) × Followed (Numbered c rules) (Closed (ruleLine None) c y) text → VoidRest c y text
   void-to c y text (k, f) =
       (f .second .second .0, kept-map c (leb-false (room .rules) rules) k, record { front = f .front; back = f .back; whole = f .whole; first = f .first; second = ended (Exactly closing) (y ≡ ruleLine None) (f .back) (f .second) })
@@ -103,9 +88,9 @@ module _ (S : Type 0) (room : Room) (atoms rules : ℕ) where
   void-from c y text (e, k, f) =
       (kept-map c (lt-leb (room .rules) rules) k, record { front = f .front; back = f .back; whole = f .whole; first = f .first; second = unended (Exactly closing) (y ≡ ruleLine None) (f .back) e (f .second) })
 
-  pub void-rest-agrees : (at : ℕ) → Agrees (void-rest at) VoidRest Any
+  pub void-rest-agrees : (at : ℕ) → Agrees (void-rest S room atoms rules at) VoidRest Any
   void-rest-agrees at =
-      agrees-as (void-rest at) _ VoidRest Any void-to void-from
+      agrees-as (void-rest S room atoms rules at) _ VoidRest Any void-to void-from
       (agrees-unless (Reading (TooMany at)) tt _ (λ c y. Followed (Numbered c rules) (Closed (ruleLine None) c y)) Any
       (numbered-then rules (λ text b. andThen (passWord closing text b) (λ next. Ok (ruleLine None, next))) (Closed (ruleLine None)) Any (closed-agrees (ruleLine None)) (closed-stops (ruleLine None)))
       (leb (room .rules) rules))
@@ -114,12 +99,9 @@ module _ (S : Type 0) (room : Room) (atoms rules : ℕ) where
   abbrev pub EndRest : Care → Line S → List ℕ → Type 0
   EndRest c y text = (y ≡ endLine) × Exactly (codes "end)\n") text
 
-  abbrev pub end-rest : List ℕ → ℕ → Result (Line S × ℕ) Fault
-  end-rest text m = andThen (passWord endWord text m) (λ a. andThen (passAt 10 text a) (λ next. Ok (endLine, next)))
-
-  pub end-rest-agrees : Agrees end-rest EndRest Any
+  pub end-rest-agrees : Agrees (end-rest S) EndRest Any
   end-rest-agrees =
-      agrees-as end-rest _ EndRest Any to from
+      agrees-as (end-rest S) _ EndRest Any to from
       (word-then endWord (λ text a. andThen (passAt 10 text a) (λ next. Ok (endLine, next))) (λ c y. Followed (Exactly (10 ∷ [])) (λ p. (y ≡ endLine) × (p ≡ []))) Any
       (byte-then 10 (λ text m. Ok (endLine, m)) (λ c y p. (y ≡ endLine) × (p ≡ [])) Any (agrees-done endLine Any)))
     where
@@ -135,16 +117,6 @@ module _ (S : Type 0) (room : Room) (atoms rules : ℕ) where
   module _ (stampAt : List ℕ → ℕ → Result (S × ℕ) Fault) (spells : Care → S → List ℕ → Type 0) (stamps : Agrees stampAt spells NoDigit) where
     abbrev pub AtomRest : Care → Line S → List ℕ → Type 0
     AtomRest c y text = (a : Atom S) × (y ≡ atomLine a) × Kept c (atoms < room .atoms) × Followed (Numbered c atoms) (Followed (Exactly (kindText (a .reading))) (Followed (spells c (a .stamp)) (Exactly closing))) text
-
-    abbrev pub atom-rest : ℕ → List ℕ → ℕ → Result (Line S × ℕ) Fault
-    atom-rest at text a =
-        ifRoom at atoms (room .atoms)
-        (andThen (nextNumber text atoms a)
-        (λ b. andThen (passAt 32 text b)
-        (λ c. andThen (readingAt text c)
-        (λ k. andThen (stampAt text (k .1))
-        (λ s. andThen (passWord closing text (s .1))
-        (λ next. Ok (atomLine (record { stamp = s .0; reading = k .0 }), next)))))))
 
     abbrev Kinded : Care → Bool → List ℕ → Type 0
     Kinded c k piece = Exactly (cond k inWord outWord) piece
@@ -196,9 +168,9 @@ module _ (S : Type 0) (room : Room) (atoms rules : ℕ) where
         let kind : Via Kinded Stamped c y (g .back) = record { value = a .reading; parts = record { front = h .front; back = h .back; whole = h .whole; first = h .first; second = stamp } } in
         (kept-map c (lt-leb (room .atoms) atoms) k, record { front = f .front; back = f .back; whole = f .whole; first = f .first; second = record { front = g .front; back = g .back; whole = g .whole; first = g .first; second = kind } })
 
-    pub atom-rest-agrees : (at : ℕ) → Agrees (atom-rest at) AtomRest Any
+    pub atom-rest-agrees : (at : ℕ) → Agrees (atom-rest S room atoms rules stampAt at) AtomRest Any
     atom-rest-agrees at =
-        agrees-as (atom-rest at) _ AtomRest Any atom-to atom-from
+        agrees-as (atom-rest S room atoms rules stampAt at) _ AtomRest Any atom-to atom-from
         (agrees-unless (Reading (TooMany at)) tt _ (λ c y. Followed (Numbered c atoms) (AtomSaid c y)) Any
         (numbered-then atoms (λ text b. andThen (passAt 32 text b) (λ c. andThen (readingAt text c) (λ k. andThen (stampAt text (k .1)) (λ s. andThen (passWord closing text (s .1)) (λ next. Ok (atomLine (record { stamp = s .0; reading = k .0 }), next)))))) AtomSaid Any said-agrees
         (λ c y piece rest g. starts 32 [] (Via Kinded Stamped c y) piece rest refl g))

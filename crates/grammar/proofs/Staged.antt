@@ -24,10 +24,10 @@ use Rattle.grammar.specs.Grammar.{OrderForm, Numbered, Declared, Body}
 use Rattle.grammar.proofs.Agreement.{Agrees}
 use Rattle.grammar.proofs.Agreeing.{Any, agrees-same, agrees-as, agrees-done, byte-then-at, word-then}
 use Rattle.grammar.proofs.Choosing.{agrees-choice}
-use Rattle.grammar.proofs.Dispatch.{atomWord, ruleWord, voidWord, afterAtom, afterRule, afterVoid, afterEnd, start-same, rules-same, atoms-same}
+use Rattle.grammar.proofs.Dispatch.{atomWord, ruleWord, voidWord, rule-rest, void-rest, atom-rest, afterAtom, afterRule, afterVoid, afterEnd, start-same, rules-same, atoms-same}
 use Rattle.grammar.proofs.Following.{under, regroup, ungroup, ended, unended, word-to, word-from, first-of}
 use Rattle.grammar.proofs.Formed.{Parts}
-use Rattle.grammar.proofs.Forms.{RuleRest, rule-rest, rule-rest-agrees, VoidRest, void-rest, void-rest-agrees, EndRest, end-rest-agrees, AtomRest, atom-rest, atom-rest-agrees}
+use Rattle.grammar.proofs.Forms.{RuleRest, rule-rest-agrees, VoidRest, void-rest-agrees, EndRest, end-rest-agrees, AtomRest, atom-rest-agrees}
 use Rattle.grammar.proofs.Lines.{LateForm, FormAt}
 use Rattle.grammar.proofs.Numbers.{NoDigit}
 use Rattle.grammar.proofs.Rests.{Going}
@@ -142,7 +142,7 @@ module _ {S : Type 0} (stampAt : List ℕ → ℕ → Result (S × ℕ) Fault) (
   early-agrees : (at : ℕ) → Agrees (λ text m. cond (isByte 97 (nth text m)) (afterAtom stampAt word room atoms rules at text m) (late-reader at text m)) Early Any
   early-agrees at =
       agrees-choice 97 (afterAtom stampAt word room atoms rules at) (late-reader at) AtomAfter Late Any
-      (word-then atomWord (atom-rest S room atoms rules stampAt spells stamps at) (AtomRest S room atoms rules stampAt spells stamps) Any (atom-rest-agrees S room atoms rules stampAt spells stamps at))
+      (word-then atomWord (atom-rest S room atoms rules stampAt at) (AtomRest S room atoms rules stampAt spells stamps) Any (atom-rest-agrees S room atoms rules stampAt spells stamps at))
       (late-agrees at)
       (λ c y piece more f. ap (isByte 97) (first-of _ _ _ piece more f))
       no-atom
