@@ -1,15 +1,13 @@
 -- Readers of pieces that agree with their grammar, put together.
-use Prim.Native.Nat.{ℕ, zero, suc, _+_, _≤_}
+use Prim.Native.Nat.{ℕ, _+_, _≤_}
 use mathlib.Core.Bool.{Bool, true, false, cond}
 use mathlib.Core.List.{List, [], _∷_, _++_}
-use mathlib.Core.Logic.{_⊎_, inl, inr}
+use mathlib.Core.Logic.{inl, inr}
 use mathlib.Core.Path.{_≡_, refl, sym, ap, _∙_, subst}
-use native.Mathlib.Numerals.{add-one}
 use native.Mathlib.Omega.{arith}
-use lib.Dec.{eqb}
 use lib.ListN.{length, drop}
-use Rattle.std.proofs.shelf.Lists.{append-assoc, append-nil, length-append}
-use Rattle.std.proofs.shelf.Tests.{cases-eq, eq-eqb, ne-eqb, eqb-true}
+use Rattle.std.proofs.shelf.Lists.{append-assoc, length-append}
+use Rattle.std.proofs.shelf.Tests.{cases-eq, eq-eqb, ne-eqb}
 use Rattle.std.specs.Finite.{nth}
 use Rattle.std.specs.declared.option.Option.{Option}
 use Rattle.std.specs.declared.option.Option.the-variants.{Some, None}
@@ -21,8 +19,9 @@ use Rattle.books.specs.declared.fault.Fault.the-variants.{Reading, Checking}
 use Rattle.text.specs.Bytes.{andThen, passAt, passIf, wrongAt}
 use Rattle.text.specs.Words.{passWord}
 use Rattle.grammar.specs.Pieces.{Care, shape, kept, plain, Kept, Exactly, Followed}
-use Rattle.grammar.proofs.Agreement.{AtByte, Same, Shared, Between, Seen, ShapeOnly, Reads, Agrees}
-use Rattle.grammar.proofs.Places.{nth-front, drop-step, drop-past, between-join, between-none, between-one}
+use Rattle.grammar.proofs.Agreement.{AtByte, Same, Shared, Between, Seen, Reads, Agrees}
+use Rattle.grammar.proofs.Following.{word-to, word-from}
+use Rattle.grammar.proofs.Places.{nth-front, drop-past, between-join, between-none, between-one}
 
 -- whatever follows
 abbrev pub Any : List ℕ → Type 0
@@ -263,15 +262,6 @@ module _ (byte : ℕ) where
   -- the same, where the rest does not go by it
   pub byte-then : {Y : Type 0} (K : List ℕ → ℕ → Result (Y × ℕ) Fault) (G : Care → Y → List ℕ → Type 0) (Stop : List ℕ → Type 0) → Agrees K G Stop → Agrees (λ text at. andThen (passAt byte text at) (K text)) (λ c y. Followed (Exactly (byte ∷ [])) (G c y)) Stop
   byte-then K G Stop a = byte-then-at (λ at. K) G Stop (λ at. a)
-
--- a byte and then a word are one word
-pub word-to : (b : ℕ) (word : List ℕ) (A : List ℕ → Type 0) (piece : List ℕ) → Followed (Exactly (b ∷ [])) (Followed (Exactly word) A) piece → Followed (Exactly (b ∷ word)) A piece
-word-to b word A piece f =
-    record { front = b ∷ word; back = f .second .back; whole = f .whole ∙ ap (λ t. t ++ f .back) (f .first) ∙ ap (λ t. b ∷ t) (f .second .whole ∙ ap (λ t. t ++ f .second .back) (f .second .first)); first = refl; second = f .second .second }
-
-pub word-from : (b : ℕ) (word : List ℕ) (A : List ℕ → Type 0) (piece : List ℕ) → Followed (Exactly (b ∷ word)) A piece → Followed (Exactly (b ∷ [])) (Followed (Exactly word) A) piece
-word-from b word A piece f =
-    record { front = b ∷ []; back = word ++ f .back; whole = f .whole ∙ ap (λ t. t ++ f .back) (f .first); first = refl; second = record { front = word; back = f .back; whole = refl; first = refl; second = f .second } }
 
 -- a word that must stand there, and then the rest
 pub word-then : {Y : Type 0} (word : List ℕ) (K : List ℕ → ℕ → Result (Y × ℕ) Fault) (G : Care → Y → List ℕ → Type 0) (Stop : List ℕ → Type 0) → Agrees K G Stop → Agrees (λ text at. andThen (passWord word text at) (K text)) (λ c y. Followed (Exactly word) (G c y)) Stop

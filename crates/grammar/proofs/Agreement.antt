@@ -7,9 +7,7 @@ use lib.ListN.{length, drop}
 use Rattle.std.specs.Finite.{nth}
 use Rattle.std.specs.declared.result.Result.{Result}
 use Rattle.std.specs.declared.result.Result.the-variants.{Ok, Err}
-use Rattle.books.specs.declared.fault.ReadFault.{ReadFault}
 use Rattle.books.specs.declared.fault.ReadFault.the-variants.{Byte, NotRising, Number, TooMany, AtomMissing}
-use Rattle.books.specs.declared.fault.CheckFault.{CheckFault}
 use Rattle.books.specs.declared.fault.Fault.{Fault}
 use Rattle.books.specs.declared.fault.Fault.the-variants.{Reading, Checking}
 use Rattle.grammar.specs.Pieces.{Care, shape, kept, plain}

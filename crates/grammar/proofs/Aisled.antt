@@ -1,9 +1,9 @@
 -- Routes agree with their grammar.
 use Prim.Native.Nat.{ℕ, zero, suc, _+_, _^_, _<_, _≤_}
 use mathlib.Core.Bool.{Bool, true, false, cond}
-use mathlib.Core.List.{List, [], _∷_, _++_}
+use mathlib.Core.List.{List, [], _∷_}
 use mathlib.Core.Logic.{_⊎_, inl, inr}
-use mathlib.Core.Path.{_≡_, refl, sym, ap, _∙_, subst}
+use mathlib.Core.Path.{_≡_, refl, sym, ap, _∙_}
 use native.Mathlib.Omega.{arith}
 use lib.Bits.{bitOr}
 use lib.Dec.{ltb}
@@ -16,19 +16,20 @@ use Rattle.books.specs.declared.fault.Fault.{Fault}
 use Rattle.books.specs.declared.fault.Fault.the-variants.{Reading}
 use Rattle.stamps.specs.declared.route.Route.{Route}
 use Rattle.text.specs.Bytes.{andThen, passAt}
-use Rattle.text.specs.Lists.{openAt, onwardAt, emptyIf, onwardIf}
+use Rattle.text.specs.Lists.{openAt, onwardAt, emptyIf}
 use Rattle.text.specs.Numbers.{numberAt}
-use Rattle.text.specs.Stamps.{oneAisle, noAisle, aislesAt, routeAt}
+use Rattle.text.specs.Stamps.{oneAisle, aislesAt, routeAt}
 use Rattle.text.specs.Turns.{turns, tries}
 use Rattle.text.specs.Words.{isByte}
 use Rattle.text.specs.declared.aisles.Aisles.{Aisles}
-use Rattle.grammar.specs.Pieces.{Care, Kept, Exactly, Followed, Numeral, Spaced, Listed}
+use Rattle.grammar.specs.Pieces.{Care, Kept, Numeral, Spaced}
 use Rattle.grammar.specs.Stamps.{RouteSpelt, RisingFrom, withAisles}
 use Rattle.grammar.proofs.Agreement.{Agrees}
 use Rattle.grammar.proofs.Agreeing.{Any, Via, then-then, agrees-same, agrees-as, agrees-then, agrees-done}
 use Rattle.grammar.proofs.Canonical.{list-within}
-use Rattle.grammar.proofs.Choosing.{kept-map}
-use Rattle.grammar.proofs.Lists.{ended, unended, run, adds, Passes, Bracketed, listed, list-agrees, kept-both, kept-three, followed-map}
+use Rattle.grammar.proofs.Following.{followed-map, ended, unended}
+use Rattle.grammar.proofs.Keeping.{kept-map, kept-both}
+use Rattle.grammar.proofs.Lists.{run, adds, Passes, Bracketed, listed, list-agrees}
 use Rattle.grammar.proofs.Numbers.{number-limited}
 use Rattle.grammar.proofs.Turning.{tries-first, tries-stay, onward-same, open-same}
 

@@ -2,13 +2,13 @@
 use Prim.Native.Nat.{ℕ, zero, suc, _+_, _<_, _≤_}
 use mathlib.Core.Bool.{Bool, true, false, cond}
 use mathlib.Core.List.{List, [], _∷_, _++_}
-use mathlib.Core.Logic.{_⊎_, inl, inr}
+use mathlib.Core.Logic.{_⊎_, inl}
 use mathlib.Core.Path.{_≡_, refl, sym, ap, _∙_, subst}
 use native.Mathlib.Omega.{arith}
 use lib.Dec.{leb}
 use lib.ListN.{length}
 use Rattle.std.proofs.shelf.Lists.{append-assoc, append-nil, length-push}
-use Rattle.std.proofs.shelf.Tests.{leb-true, leb-false, le-leb, lt-leb}
+use Rattle.std.proofs.shelf.Tests.{leb-false, le-leb, lt-leb}
 use Rattle.std.specs.Finite.{nth, All}
 use Rattle.std.specs.declared.result.Result.{Result}
 use Rattle.std.specs.declared.result.Result.the-variants.{Ok, Err}
@@ -16,18 +16,18 @@ use Rattle.books.specs.declared.fault.ReadFault.the-variants.{TooMany, AtomMiss
 use Rattle.books.specs.declared.fault.Fault.{Fault}
 use Rattle.books.specs.declared.fault.Fault.the-variants.{Reading}
 use Rattle.text.specs.Bytes.{andThen, passAt}
-use Rattle.text.specs.Lists.{openAt, onwardAt, emptyIf, onwardIf}
+use Rattle.text.specs.Lists.{openAt, onwardAt, emptyIf}
 use Rattle.text.specs.Numbers.{numberAt}
-use Rattle.text.specs.Rules.{literalAt, Listed, noAtom, extended, oneLiteral, bodyAt}
+use Rattle.text.specs.Rules.{Listed, extended, oneLiteral, bodyAt}
 use Rattle.text.specs.Turns.{turns, tries}
 use Rattle.text.specs.Words.{isByte}
 use Rattle.text.specs.declared.site.Site.{Site}
-use Rattle.grammar.specs.Pieces.{Care, Kept}
+use Rattle.grammar.specs.Pieces.{Care}
 use Rattle.grammar.specs.Grammar.{Body}
 use Rattle.grammar.proofs.Agreement.{Agrees}
 use Rattle.grammar.proofs.Agreeing.{Any, then-then, agrees-same, agrees-as}
-use Rattle.grammar.proofs.Choosing.{kept-map}
-use Rattle.grammar.proofs.Lists.{run, adds, Passes, Bracketed, listed, list-agrees, kept-both}
+use Rattle.grammar.proofs.Keeping.{kept-map, kept-both}
+use Rattle.grammar.proofs.Lists.{run, adds, Passes, Bracketed, listed, list-agrees}
 use Rattle.grammar.proofs.Turning.{tries-first, tries-stay, onward-same, open-same}
 
 module _ (site : Site) (before : ℕ) where

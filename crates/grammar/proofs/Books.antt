@@ -23,9 +23,9 @@ use Rattle.writing.specs.Writes.{bookGap}
 use Rattle.grammar.specs.Pieces.{Care, kept, plain, Exactly, Numeral, Spaced, Listed}
 use Rattle.grammar.specs.Grammar.{Numbered, Declared, Body, AtomForm, RuleForm, AtomForms, RuleForms, Spells}
 use Rattle.grammar.specs.Stamps.{TickSpelt, PairSpelt, RouteSpelt}
-use Rattle.grammar.proofs.Canonical.{followed-by, followed-unique, numeral-canonical, numeral-unique, list-canonical, list-unique, up-to-same, up-to-first}
+use Rattle.grammar.proofs.Canonical.{numeral-canonical, numeral-unique, list-canonical, list-unique, up-to-same, up-to-first}
+use Rattle.grammar.proofs.Following.{followed-by, followed-unique, followed-map}
 use Rattle.grammar.proofs.Gaps.{GaplessRule, GaplessRow, gap-rules, rules-gapless}
-use Rattle.grammar.proofs.Lists.{followed-map}
 
 -- what f gives of each thing and its number, one after another from number k on
 abbrev linesFrom : {X : Type 0} → (ℕ → X → List ℕ) → ℕ → List X → List ℕ

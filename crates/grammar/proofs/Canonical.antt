@@ -18,17 +18,10 @@ use Rattle.std.specs.declared.option.Option.the-variants.{Some, None}
 use Rattle.stamps.specs.declared.tick.Tick.{Tick}
 use Rattle.stamps.specs.declared.then.Then.{Then}
 use Rattle.text.specs.Spelt.{upTo, space, opening, shutting, item, listText, tickText, pairText}
-use Rattle.grammar.specs.Pieces.{Care, shape, kept, plain, Kept, Followed, Numeral, Spaced, Listed}
+use Rattle.grammar.specs.Pieces.{Care, kept, plain, Kept, Numeral, Spaced, Listed}
 use Rattle.grammar.specs.Stamps.{TickSpelt, PairSpelt}
-
--- a piece and then another
-pub followed-by : {A B : List ℕ → Type 0} (front back : List ℕ) → A front → B back → Followed A B (front ++ back)
-followed-by front back a b = record { front = front; back = back; whole = refl; first = a; second = b }
-
--- where each of two pieces has one text, so have they together
-pub followed-unique : {A B : List ℕ → Type 0} (front back text : List ℕ) → ((t : List ℕ) → A t → t ≡ front) → ((t : List ℕ) → B t → t ≡ back) → Followed A B text → text ≡ front ++ back
-followed-unique front back text a b h =
-    h .whole ∙ ap (λ t. t ++ h .back) (a (h .front) (h .first)) ∙ ap (λ t. front ++ t) (b (h .back) (h .second))
+use Rattle.grammar.proofs.Following.{followed-by, followed-unique}
+use Rattle.grammar.proofs.Keeping.{kept-fact, kept-both}
 
 no-leading-zero : (n : ℕ) → n < 2 ^ 64 → getD (decimal n) 0 0 ≡ 48 → length (decimal n) ≡ 1
 no-leading-zero n h e =
@@ -126,21 +119,11 @@ list-unique limit xs text h =
     followed-unique opening (spacedText xs ++ shutting) text (λ t e. e) (λ t. followed-unique (spacedText xs) shutting t (spaced-unique limit xs) (λ s e. e)) h
     ∙ sym (list-text xs)
 
-kept-both : (c : Care) (P Q : Type 0) → Kept c P → Kept c Q → Kept c (P × Q)
-kept-both shape P Q p q = tt
-kept-both kept P Q p q = (p, q)
-kept-both plain P Q p q = (p, q)
-
-kept-none : (c : Care) → Kept c (Unit {0})
-kept-none shape = tt
-kept-none kept = tt
-kept-none plain = tt
-
 spaced-within : (c : Care) (limit : ℕ) (xs text : List ℕ) → Spaced c limit xs text → Kept c (All (λ n. n ≤ limit) xs)
-spaced-within c limit [] text h = kept-none c
-spaced-within c limit (x ∷ []) text h = kept-both c (x ≤ limit) (Unit {0}) (h .within) (kept-none c)
+spaced-within c limit [] text h = kept-fact (Unit {0}) c tt
+spaced-within c limit (x ∷ []) text h = kept-both (x ≤ limit) (Unit {0}) c (h .within) (kept-fact (Unit {0}) c tt)
 spaced-within c limit (x ∷ y ∷ xs) text h =
-    kept-both c (x ≤ limit) (All (λ n. n ≤ limit) (y ∷ xs)) (h .first .within) (spaced-within c limit (y ∷ xs) (h .second .back) (h .second .second))
+    kept-both (x ≤ limit) (All (λ n. n ≤ limit) (y ∷ xs)) c (h .first .within) (spaced-within c limit (y ∷ xs) (h .second .back) (h .second .second))
 
 -- the numbers of a list are within its limit
 pub list-within : (c : Care) (limit : ℕ) (xs text : List ℕ) → Listed c limit xs text → Kept c (All (λ n. n ≤ limit) xs)

@@ -1,14 +1,12 @@
 -- Readers that go one way or another: by a byte, or by a test of what was read.
-use Prim.Native.Nat.{ℕ, zero, suc, _+_, _≤_}
+use Prim.Native.Nat.{ℕ, _+_}
 use mathlib.Core.Bool.{Bool, true, false, cond, not}
-use mathlib.Core.List.{List, [], _∷_, _++_}
+use mathlib.Core.List.{List, _++_}
 use mathlib.Core.Logic.{_⊎_, inl, inr}
 use mathlib.Core.Path.{_≡_, refl, sym, ap, _∙_, subst}
 use native.Mathlib.Omega.{arith}
 use lib.ListN.{length, drop}
 use Rattle.std.specs.Finite.{nth}
-use Rattle.std.specs.declared.option.Option.{Option}
-use Rattle.std.specs.declared.option.Option.the-variants.{Some, None}
 use Rattle.std.specs.declared.result.Result.{Result}
 use Rattle.std.specs.declared.result.Result.the-variants.{Ok, Err}
 use Rattle.books.specs.declared.fault.Fault.{Fault}
@@ -16,6 +14,7 @@ use Rattle.text.specs.Words.{isByte}
 use Rattle.grammar.specs.Pieces.{Care, shape, kept, plain, Kept}
 use Rattle.grammar.proofs.Agreement.{AtByte, Same, Shared, Seen, Reads, Agrees}
 use Rattle.grammar.proofs.Agreeing.{at-byte-map, at-byte-both, not-at-byte, Reaches, seen-reaches, same-below, agrees-if, agrees-same, agrees-as}
+use Rattle.grammar.proofs.Keeping.{kept-map}
 use Rattle.grammar.proofs.Places.{nth-front}
 
 -- an answer that another text's answer equals, where both have the same byte at a place
@@ -76,11 +75,6 @@ module _ {X : Type 0} (byte : ℕ) (P Q : List ℕ → ℕ → Result (X × ℕ)
 flip : {X : Type 0} (b : Bool) (x y : X) → cond (not b) x y ≡ cond b y x
 flip true x y = refl
 flip false x y = refl
-
-pub kept-map : {P Q : Type 0} (c : Care) → (P → Q) → Kept c P → Kept c Q
-kept-map shape f h = tt
-kept-map kept f h = f h
-kept-map plain f h = f h
 
 not-true : (b : Bool) → not b ≡ true → b ≡ false
 not-true true e = sym e

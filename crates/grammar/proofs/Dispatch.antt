@@ -6,6 +6,7 @@ use mathlib.Core.Logic.{inl, inr}
 use mathlib.Core.Path.{_≡_, refl, sym, ap, _∙_, subst}
 use native.Mathlib.Numerals.{add-one}
 use native.Mathlib.Omega.{arith}
+use lib.Chars.{codes}
 use lib.Dec.{eqb}
 use lib.ListN.{drop}
 use Rattle.std.proofs.shelf.Tests.{cases-eq, ne-eqb}
@@ -215,21 +216,34 @@ table-same k k' N N' A A' R R' V V' E E' p q s t u w = cc
 opening-step : (b : ℕ) (word text : List ℕ) (at : ℕ) → begins (40 ∷ b ∷ word) (drop at text) ≡ (isByte 40 (nth text at) && (isByte b (nth text (at + 1)) && begins word (drop (at + 1 + 1) text)))
 opening-step b word text at = begins-step 40 (b ∷ word) text at ∙ ap (λ u. isByte 40 (nth text at) && u) (begins-step b word text (at + 1))
 
+-- the openings after the bracket
+abbrev pub atomWord : List ℕ
+atomWord = codes "atom "
+
+abbrev pub ruleWord : List ℕ
+ruleWord = codes "rule "
+
+abbrev pub voidWord : List ℕ
+voidWord = codes "void "
+
+abbrev pub endWord : List ℕ
+endWord = codes "end)"
+
 -- the openings after the byte that tells the form
-abbrev orderRest : List ℕ
-orderRest = 114 ∷ 100 ∷ 101 ∷ 114 ∷ 32 ∷ []
+abbrev orderTail : List ℕ
+orderTail = codes "rder "
 
-abbrev atomRest : List ℕ
-atomRest = 116 ∷ 111 ∷ 109 ∷ 32 ∷ []
+abbrev atomTail : List ℕ
+atomTail = codes "tom "
 
-abbrev ruleRest : List ℕ
-ruleRest = 117 ∷ 108 ∷ 101 ∷ 32 ∷ []
+abbrev ruleTail : List ℕ
+ruleTail = codes "ule "
 
-abbrev voidRest : List ℕ
-voidRest = 111 ∷ 105 ∷ 100 ∷ 32 ∷ []
+abbrev voidTail : List ℕ
+voidTail = codes "oid "
 
-abbrev endRest : List ℕ
-endRest = 110 ∷ 100 ∷ 41 ∷ []
+abbrev endTail : List ℕ
+endTail = codes "nd)"
 
 -- whether a text begins with the byte that tells a form and the rest of the opening
 abbrev tells : List ℕ → ℕ → ℕ → List ℕ → Bool
@@ -237,46 +251,58 @@ tells text m b word = isByte b (nth text m) && begins word (drop (m + 1) text)
 
 kind-at : (text : List ℕ) (at : ℕ) →
     (let t = isByte 40 (nth text at) in
-    kindBy (t && tells text (at + 1) 111 orderRest) (t && tells text (at + 1) 97 atomRest) (t && tells text (at + 1) 114 ruleRest) (t && tells text (at + 1) 118 voidRest) (t && tells text (at + 1) 101 endRest) ≡ kindOf (drop at text))
+    kindBy (t && tells text (at + 1) 111 orderTail) (t && tells text (at + 1) 97 atomTail) (t && tells text (at + 1) 114 ruleTail) (t && tells text (at + 1) 118 voidTail) (t && tells text (at + 1) 101 endTail) ≡ kindOf (drop at text))
 kind-at text at =
     kind-same _ _ _ _ _ _ _ _ _ _
-    (opening-step 111 orderRest text at) (opening-step 97 atomRest text at) (opening-step 114 ruleRest text at) (opening-step 118 voidRest text at) (opening-step 101 endRest text at)
+    (opening-step 111 orderTail text at) (opening-step 97 atomTail text at) (opening-step 114 ruleTail text at) (opening-step 118 voidTail text at) (opening-step 101 endTail text at)
+
+module _ (S : Type 0) where
+  -- the end after its bracket
+  abbrev pub end-rest : List ℕ → ℕ → Result (Line S × ℕ) Fault
+  end-rest text m = andThen (passWord endWord text m) (λ a. andThen (passAt 10 text a) (λ next. Ok (endLine, next)))
+
+  module _ (room : Room) (atoms rules : ℕ) where
+    -- a rule from its number on, in a form that stands at `at`
+    abbrev pub rule-rest : ℕ → List ℕ → ℕ → Result (Line S × ℕ) Fault
+    rule-rest at text a =
+        ifRoom at rules (room .rules)
+        (andThen (nextNumber text rules a)
+        (λ b. andThen (ruleAt text (record { form = at; rule = rules; atoms = atoms }) b)
+        (λ p. andThen (passWord closing text (p .1))
+        (λ next. Ok (ruleLine (Some (p .0)), next)))))
+
+    -- a void rule from its number on
+    abbrev pub void-rest : ℕ → List ℕ → ℕ → Result (Line S × ℕ) Fault
+    void-rest at text a =
+        ifRoom at rules (room .rules)
+        (andThen (nextNumber text rules a)
+        (λ b. andThen (passWord closing text b)
+        (λ next. Ok (ruleLine None, next))))
+
+    -- an atom from its number on
+    abbrev pub atom-rest : (List ℕ → ℕ → Result (S × ℕ) Fault) → ℕ → List ℕ → ℕ → Result (Line S × ℕ) Fault
+    atom-rest stampAt at text a =
+        ifRoom at atoms (room .atoms)
+        (andThen (nextNumber text atoms a)
+        (λ b. andThen (passAt 32 text b)
+        (λ c. andThen (readingAt text c)
+        (λ k. andThen (stampAt text (k .1))
+        (λ s. andThen (passWord closing text (s .1))
+        (λ next. Ok (atomLine (record { stamp = s .0; reading = k .0 }), next)))))))
 
 module _ {S : Type 0} (stampAt : List ℕ → ℕ → Result (S × ℕ) Fault) (word : List ℕ) (room : Room) (atoms rules : ℕ) where
-  -- an atom after its bracket, which stands at `at`
+  -- the forms after their bracket, which stands at `at`
   abbrev pub afterAtom : ℕ → List ℕ → ℕ → Result (Line S × ℕ) Fault
-  afterAtom at text m =
-      andThen (passWord (97 ∷ 116 ∷ 111 ∷ 109 ∷ 32 ∷ []) text m)
-      (λ a. ifRoom at atoms (room .atoms)
-      (andThen (nextNumber text atoms a)
-      (λ b. andThen (passAt 32 text b)
-      (λ c. andThen (readingAt text c)
-      (λ k. andThen (stampAt text (k .1))
-      (λ s. andThen (passWord closing text (s .1))
-      (λ next. Ok (atomLine (record { stamp = s .0; reading = k .0 }), next))))))))
+  afterAtom at text m = andThen (passWord atomWord text m) (atom-rest S room atoms rules stampAt at text)
 
-  -- a rule after its bracket
   abbrev pub afterRule : ℕ → List ℕ → ℕ → Result (Line S × ℕ) Fault
-  afterRule at text m =
-      andThen (passWord (114 ∷ 117 ∷ 108 ∷ 101 ∷ 32 ∷ []) text m)
-      (λ a. ifRoom at rules (room .rules)
-      (andThen (nextNumber text rules a)
-      (λ b. andThen (ruleAt text (record { form = at; rule = rules; atoms = atoms }) b)
-      (λ p. andThen (passWord closing text (p .1))
-      (λ next. Ok (ruleLine (Some (p .0)), next))))))
+  afterRule at text m = andThen (passWord ruleWord text m) (rule-rest S room atoms rules at text)
 
-  -- a void rule after its bracket
   abbrev pub afterVoid : ℕ → List ℕ → ℕ → Result (Line S × ℕ) Fault
-  afterVoid at text m =
-      andThen (passWord (118 ∷ 111 ∷ 105 ∷ 100 ∷ 32 ∷ []) text m)
-      (λ a. ifRoom at rules (room .rules)
-      (andThen (nextNumber text rules a)
-      (λ b. andThen (passWord closing text b)
-      (λ next. Ok (ruleLine None, next)))))
+  afterVoid at text m = andThen (passWord voidWord text m) (void-rest S room atoms rules at text)
 
-  -- the end after its bracket
   abbrev pub afterEnd : List ℕ → ℕ → Result (Line S × ℕ) Fault
-  afterEnd text m = andThen (passWord (101 ∷ 110 ∷ 100 ∷ 41 ∷ []) text m) (λ a. andThen (passAt 10 text a) (λ next. Ok (endLine, next)))
+  afterEnd = end-rest S
 
   -- at the start only an order is allowed
   pub start-same : (text : List ℕ) (at : ℕ) → orderAt word text at ≡ formAt stampAt word text room (record { stage = Start; next = at; atoms = atoms; rules = rules })
@@ -292,7 +318,7 @@ module _ {S : Type 0} (stampAt : List ℕ → ℕ → Result (S × ℕ) Fault) (
       let m = at + 1 in
       let bytes = drop (m + 1) text in
       let bracket = isByte 40 (nth text at) in
-      let choice = late-by m _ _ _ _ _ _ (told (nth text m)) (begins orderRest bytes) (begins atomRest bytes) _ _ _ (way 114 ruleRest text m _) (way 118 voidRest text m _) (way 101 endRest text m _) in
+      let choice = late-by m _ _ _ _ _ _ (told (nth text m)) (begins orderTail bytes) (begins atomTail bytes) _ _ _ (way 114 ruleTail text m _) (way 118 voidTail text m _) (way 101 endTail text m _) in
       let place = late-place at bracket _ _ _ in
       byte-first 40 text at _
       ∙ opened at bracket _ _ _ _ _ _ _ _ _ _ _ choice
@@ -305,7 +331,7 @@ module _ {S : Type 0} (stampAt : List ℕ → ℕ → Result (S × ℕ) Fault) (
       let m = at + 1 in
       let bytes = drop (m + 1) text in
       let bracket = isByte 40 (nth text at) in
-      let choice = early-by m _ _ _ _ _ _ _ _ (told (nth text m)) (begins orderRest bytes) _ _ _ _ (way 97 atomRest text m _) (way 114 ruleRest text m _) (way 118 voidRest text m _) (way 101 endRest text m _) in
+      let choice = early-by m _ _ _ _ _ _ _ _ (told (nth text m)) (begins orderTail bytes) _ _ _ _ (way 97 atomTail text m _) (way 114 ruleTail text m _) (way 118 voidTail text m _) (way 101 endTail text m _) in
       byte-first 40 text at _
       ∙ opened at bracket _ _ _ _ _ _ _ _ _ _ _ choice
       ∙ table-same _ _ _ _ _ _ _ _ _ _ _ _ (kind-at text at) (early-place at bracket _ _ _ _) (sym (word-first 40 _ text at _)) (sym (word-first 40 _ text at _)) (sym (word-first 40 _ text at _)) (sym (word-first 40 _ text at _))

@@ -1,9 +1,6 @@
 -- The small texts, computed.
-use Prim.Native.Nat.{ℕ}
-use mathlib.Core.List.{List, [], _∷_}
 use mathlib.Core.Path.{_≡_, refl, sym, ap, _∙_, subst}
 use native.Mathlib.Omega.{arith}
-use lib.Dec.{eqb}
 use lib.ListN.{length}
 use Rattle.std.proofs.shelf.Decimals.{decimal-digit}
 use Rattle.std.specs.declared.result.Result.the-variants.{Ok}
@@ -18,7 +15,7 @@ use Rattle.text.specs.Turns.{turns}
 use Rattle.text.specs.Words.{passWord, agreesTo}
 use Rattle.grammar.specs.Examples.{zeros, bare, two, ExamplesHold}
 use Rattle.grammar.specs.Notations.{ticks}
-use Rattle.grammar.specs.Pieces.{kept, plain}
+use Rattle.grammar.specs.Pieces.{plain}
 use Rattle.grammar.specs.Theorems.{readAs, writtenOf, SpeltBy}
 use Rattle.grammar.proofs.Laws.{lawful-ticks, reading-is-the-grammar, accepted-comes-back, canonical-is-unchanged}
 

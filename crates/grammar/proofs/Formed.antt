@@ -1,16 +1,13 @@
 -- The parts of the forms agree with their grammar.
-use Prim.Native.Nat.{ℕ, zero, suc, _+_, _<_, _≤_}
+use Prim.Native.Nat.{ℕ, _+_}
 use mathlib.Core.Bool.{Bool, true, false, cond}
-use mathlib.Core.List.{List, [], _∷_, _++_}
+use mathlib.Core.List.{List, [], _++_}
 use mathlib.Core.Logic.{_⊎_, inl, inr}
 use mathlib.Core.Path.{_≡_, refl, sym, ap, _∙_, subst}
-use native.Mathlib.Omega.{arith}
 use lib.Dec.{leb, eqb}
 use lib.ListN.{length}
-use Rattle.std.proofs.shelf.Lists.{append-assoc, append-nil}
+use Rattle.std.proofs.shelf.Lists.{append-nil}
 use Rattle.std.proofs.shelf.Tests.{leb-false, lt-leb, eqb-true, eq-eqb}
-use Rattle.std.specs.Finite.{nth}
-use Rattle.std.specs.declared.option.Option.the-variants.{Some, None}
 use Rattle.std.specs.declared.result.Result.{Result}
 use Rattle.std.specs.declared.result.Result.the-variants.{Ok, Err}
 use Rattle.books.specs.Meaning.{Rule}
@@ -27,11 +24,12 @@ use Rattle.text.specs.declared.site.Site.{Site}
 use Rattle.grammar.specs.Pieces.{Care, Kept, Exactly, Followed, Numeral}
 use Rattle.grammar.specs.Grammar.{Numbered, Declared, Body}
 use Rattle.grammar.proofs.Agreement.{Agrees}
-use Rattle.grammar.proofs.Agreeing.{Any, Via, then-then, agrees-same, agrees-as, agrees-then, agrees-done, agrees-if, byte-then, word-then}
+use Rattle.grammar.proofs.Agreeing.{Any, Via, agrees-same, agrees-as, agrees-then, agrees-done, agrees-if, byte-then, word-then}
 use Rattle.grammar.proofs.Bodies.{body-agrees}
-use Rattle.grammar.proofs.Choosing.{kept-map, agrees-choice, agrees-unless}
-use Rattle.grammar.proofs.Lists.{NoDigit, ended, unended}
-use Rattle.grammar.proofs.Numbers.{number-agrees}
+use Rattle.grammar.proofs.Choosing.{agrees-choice, agrees-unless}
+use Rattle.grammar.proofs.Following.{ended, unended, first-of}
+use Rattle.grammar.proofs.Keeping.{kept-map}
+use Rattle.grammar.proofs.Numbers.{number-agrees, NoDigit}
 
 abbrev Known : Site → ℕ → Care → ℕ → List ℕ → Type 0
 Known site v c n piece = Kept c (leb (site .atoms) v ≡ false) × ((n ≡ v) × (piece ≡ []))
@@ -99,8 +97,8 @@ kind-agrees =
     (agrees-choice 111 (λ text at. andThen (passWord outWord text at) (λ next. Ok (false, next))) (λ text at. andThen (passWord inWord text at) (λ next. Ok (true, next))) _ _ Any
     (word-then outWord (λ text at. Ok (false, at)) (λ c k p. (k ≡ false) × (p ≡ [])) Any (agrees-done false Any))
     (word-then inWord (λ text at. Ok (true, at)) (λ c k p. (k ≡ true) × (p ≡ [])) Any (agrees-done true Any))
-    (λ c k piece rest f. ap (λ p. isByte 111 (nth (p ++ rest) 0)) (f .whole ∙ ap (λ p. p ++ f .back) (f .first)))
-    (λ c k piece rest f. ap (λ p. isByte 111 (nth (p ++ rest) 0)) (f .whole ∙ ap (λ p. p ++ f .back) (f .first))))
+    (λ c k piece rest f. ap (isByte 111) (first-of _ _ _ piece rest f))
+    (λ c k piece rest f. ap (isByte 111) (first-of _ _ _ piece rest f)))
   where
     to : (c : Care) (k : Bool) (piece : List ℕ) → Kinds c k piece → Exactly (cond k inWord outWord) piece
     to c k piece (inl f) = subst (λ b. Exactly (cond b inWord outWord) piece) (sym (f .second .0)) (ended (Exactly outWord) (k ≡ false) piece f)
@@ -175,4 +173,4 @@ module _ (site : Site) where
       agrees-as _ _ _ Any parts-to parts-from
       (byte-then 32 _ (Via Headed Positives) Any
       (agrees-then (λ text at. headAt text site at) (λ at h text m. andThen (passAt 32 text m) (λ b. andThen (bodyAt text site 0 b) (λ p. andThen (passAt 32 text (p .1)) (λ k. andThen (bodyAt text site (length (p .0)) k) (λ n. Ok (made h (p .0) (n .0), n .1)))))) Headed Positives NoDigit Any (head-agrees site) (λ at h. positives-agree h)
-      (λ c h r piece rest g s. ap (λ t. digitOf (nth (t ++ rest) 0)) (g .whole ∙ ap (λ t. t ++ g .back) (g .first)))))
+      (λ c h r piece rest g s. ap digitOf (first-of _ _ _ piece rest g))))

@@ -1,37 +1,39 @@
 -- The forms agree with their grammar, each from the byte after its bracket on.
-use Prim.Native.Nat.{ℕ, zero, suc, _+_, _<_, _≤_}
+use Prim.Native.Nat.{ℕ, _+_, _<_}
 use mathlib.Core.Bool.{Bool, true, false, cond}
 use mathlib.Core.List.{List, [], _∷_, _++_}
-use mathlib.Core.Path.{_≡_, refl, sym, ap, _∙_, subst}
+use mathlib.Core.Path.{_≡_, refl, ap, _∙_}
+use lib.Chars.{codes}
 use lib.Dec.{leb}
 use Rattle.std.proofs.shelf.Tests.{leb-false, lt-leb}
-use Rattle.std.specs.Finite.{nth}
 use Rattle.std.specs.declared.option.Option.the-variants.{Some, None}
 use Rattle.std.specs.declared.result.Result.{Result}
-use Rattle.std.specs.declared.result.Result.the-variants.{Ok, Err}
+use Rattle.std.specs.declared.result.Result.the-variants.{Ok}
 use Rattle.books.specs.Meaning.{Atom, Rule}
 use Rattle.books.specs.declared.fault.ReadFault.the-variants.{TooMany}
 use Rattle.books.specs.declared.fault.Fault.{Fault}
 use Rattle.books.specs.declared.fault.Fault.the-variants.{Reading}
 use Rattle.text.specs.Bytes.{andThen, passAt}
-use Rattle.text.specs.Forms.{Line, orderLine, atomLine, ruleLine, endLine, closing, nextNumber, ifRoom, readingAt, inWord, outWord}
+use Rattle.text.specs.Forms.{Line, atomLine, ruleLine, endLine, closing, readingAt, inWord, outWord}
 use Rattle.text.specs.Numbers.{digitOf}
 use Rattle.text.specs.Rules.{ruleAt}
-use Rattle.text.specs.Spelt.{kindText, space}
+use Rattle.text.specs.Spelt.{kindText}
 use Rattle.text.specs.Words.{passWord}
 use Rattle.text.specs.declared.reader.Room.{Room}
-use Rattle.text.specs.declared.site.Site.{Site}
 use Rattle.grammar.specs.Pieces.{Care, Kept, Exactly, Followed}
-use Rattle.grammar.specs.Grammar.{Numbered, Declared, Body}
+use Rattle.grammar.specs.Grammar.{Numbered}
 use Rattle.grammar.proofs.Agreement.{Agrees}
-use Rattle.grammar.proofs.Agreeing.{Any, Via, agrees-as, agrees-then, agrees-done, byte-then, word-then, word-to, word-from}
-use Rattle.grammar.proofs.Choosing.{kept-map, agrees-unless}
+use Rattle.grammar.proofs.Agreeing.{Any, Via, agrees-as, agrees-then, agrees-done, byte-then, word-then}
+use Rattle.grammar.proofs.Choosing.{agrees-unless}
+use Rattle.grammar.proofs.Dispatch.{endWord, rule-rest, void-rest, end-rest, atom-rest}
+use Rattle.grammar.proofs.Following.{ended, unended, word-to, word-from, first-of, ungroup}
 use Rattle.grammar.proofs.Formed.{Parts, kind-agrees, numbered-then, rule-agrees}
-use Rattle.grammar.proofs.Lists.{NoDigit, ended, unended}
+use Rattle.grammar.proofs.Keeping.{kept-map}
+use Rattle.grammar.proofs.Numbers.{NoDigit}
 
 -- where a piece begins with a byte that is no digit
 pub starts : (b : ℕ) (word : List ℕ) (A : List ℕ → Type 0) (piece rest : List ℕ) → digitOf (Some b) ≡ None → Followed (Exactly (b ∷ word)) A piece → NoDigit (piece ++ rest)
-starts b word A piece rest e f = ap (λ t. digitOf (nth (t ++ rest) 0)) (f .whole ∙ ap (λ t. t ++ f .back) (f .first)) ∙ e
+starts b word A piece rest e f = ap digitOf (first-of _ _ _ piece rest f) ∙ e
 
 module _ (S : Type 0) (room : Room) (atoms rules : ℕ) where
   -- the end of a form that says this
@@ -51,14 +53,6 @@ module _ (S : Type 0) (room : Room) (atoms rules : ℕ) where
   abbrev RuleSaid : Care → Line S → List ℕ → Type 0
   RuleSaid = Via (λ c r text. Parts c atoms r text) (λ r. Closed (ruleLine (Some r)))
 
-  abbrev pub rule-rest : ℕ → List ℕ → ℕ → Result (Line S × ℕ) Fault
-  rule-rest at text a =
-      ifRoom at rules (room .rules)
-      (andThen (nextNumber text rules a)
-      (λ b. andThen (ruleAt text (record { form = at; rule = rules; atoms = atoms }) b)
-      (λ p. andThen (passWord closing text (p .1))
-      (λ next. Ok (ruleLine (Some (p .0)), next)))))
-
   rule-to : (c : Care) (y : Line S) (text : List ℕ) → Kept c (leb (room .rules) rules ≡ false) × Followed (Numbered c rules) (RuleSaid c y) text → RuleRest c y text
   rule-to c y text (k, f) =
       let v = f .second in
@@ -71,14 +65,11 @@ module _ (S : Type 0) (room : Room) (atoms rules : ℕ) where
       (kept-map c (lt-leb (room .rules) rules) k, record { front = f .front; back = f .back; whole = f .whole; first = f .first; second = record { value = r; parts = record { front = g .front; back = g .back; whole = g .whole; first = g .first; second = unended (Exactly closing) (y ≡ ruleLine (Some r)) (g .back) e (g .second) } } })
 
   said-stops : (c : Care) (y : Line S) (piece rest : List ℕ) → RuleSaid c y piece → NoDigit (piece ++ rest)
-  said-stops c y piece rest v =
-      let g = v .parts in
-      let f = g .first in
-      ap (λ t. digitOf (nth (t ++ rest) 0)) (g .whole ∙ ap (λ t. t ++ g .back) (f .whole ∙ ap (λ t. t ++ f .back) (f .first)))
+  said-stops c y piece rest v = ap digitOf (first-of _ _ _ piece rest (ungroup _ _ _ piece (v .parts)))
 
-  pub rule-rest-agrees : (at : ℕ) → Agrees (rule-rest at) RuleRest Any
+  pub rule-rest-agrees : (at : ℕ) → Agrees (rule-rest S room atoms rules at) RuleRest Any
   rule-rest-agrees at =
-      agrees-as (rule-rest at) _ RuleRest Any rule-to rule-from
+      agrees-as (rule-rest S room atoms rules at) _ RuleRest Any rule-to rule-from
       (agrees-unless (Reading (TooMany at)) tt _ (λ c y. Followed (Numbered c rules) (RuleSaid c y)) Any
       (numbered-then rules (λ text b. andThen (ruleAt text (record { form = at; rule = rules; atoms = atoms }) b) (λ p. andThen (passWord closing text (p .1)) (λ next. Ok (ruleLine (Some (p .0)), next)))) RuleSaid Any
       (agrees-then (λ text b. ruleAt text (record { form = at; rule = rules; atoms = atoms }) b) (λ b r text m. andThen (passWord closing text m) (λ next. Ok (ruleLine (Some r), next))) (λ c r text. Parts c atoms r text) (λ r. Closed (ruleLine (Some r))) Any Any (rule-agrees (record { form = at; rule = rules; atoms = atoms })) (λ b r. closed-agrees (ruleLine (Some r))) (λ c r y piece rest g s. tt))
@@ -89,13 +80,6 @@ module _ (S : Type 0) (room : Room) (atoms rules : ℕ) where
   abbrev pub VoidRest : Care → Line S → List ℕ → Type 0
   VoidRest c y text = (y ≡ ruleLine None) × Kept c (rules < room .rules) × Followed (Numbered c rules) (Exactly closing) text
 
-  abbrev pub void-rest : ℕ → List ℕ → ℕ → Result (Line S × ℕ) Fault
-  void-rest at text a =
-      ifRoom at rules (room .rules)
-      (andThen (nextNumber text rules a)
-      (λ b. andThen (passWord closing text b)
-      (λ next. Ok (ruleLine None, next))))
-
   void-to : (c : Care) (y : Line S) (text : List ℕ) → Kept c (leb (room .rules) rules ≡ false) × Followed (Numbered c rules) (Closed (ruleLine None) c y) text → VoidRest c y text
   void-to c y text (k, f) =
       (f .second .second .0, kept-map c (leb-false (room .rules) rules) k, record { front = f .front; back = f .back; whole = f .whole; first = f .first; second = ended (Exactly closing) (y ≡ ruleLine None) (f .back) (f .second) })
@@ -104,48 +88,35 @@ module _ (S : Type 0) (room : Room) (atoms rules : ℕ) where
   void-from c y text (e, k, f) =
       (kept-map c (lt-leb (room .rules) rules) k, record { front = f .front; back = f .back; whole = f .whole; first = f .first; second = unended (Exactly closing) (y ≡ ruleLine None) (f .back) e (f .second) })
 
-  pub void-rest-agrees : (at : ℕ) → Agrees (void-rest at) VoidRest Any
+  pub void-rest-agrees : (at : ℕ) → Agrees (void-rest S room atoms rules at) VoidRest Any
   void-rest-agrees at =
-      agrees-as (void-rest at) _ VoidRest Any void-to void-from
+      agrees-as (void-rest S room atoms rules at) _ VoidRest Any void-to void-from
       (agrees-unless (Reading (TooMany at)) tt _ (λ c y. Followed (Numbered c rules) (Closed (ruleLine None) c y)) Any
       (numbered-then rules (λ text b. andThen (passWord closing text b) (λ next. Ok (ruleLine None, next))) (Closed (ruleLine None)) Any (closed-agrees (ruleLine None)) (closed-stops (ruleLine None)))
       (leb (room .rules) rules))
 
   -- the end, from the byte after its bracket on
   abbrev pub EndRest : Care → Line S → List ℕ → Type 0
-  EndRest c y text = (y ≡ endLine) × Exactly (101 ∷ 110 ∷ 100 ∷ 41 ∷ 10 ∷ []) text
+  EndRest c y text = (y ≡ endLine) × Exactly (codes "end)\n") text
 
-  abbrev pub end-rest : List ℕ → ℕ → Result (Line S × ℕ) Fault
-  end-rest text m = andThen (passWord (101 ∷ 110 ∷ 100 ∷ 41 ∷ []) text m) (λ a. andThen (passAt 10 text a) (λ next. Ok (endLine, next)))
-
-  pub end-rest-agrees : Agrees end-rest EndRest Any
+  pub end-rest-agrees : Agrees (end-rest S) EndRest Any
   end-rest-agrees =
-      agrees-as end-rest _ EndRest Any to from
-      (word-then (101 ∷ 110 ∷ 100 ∷ 41 ∷ []) (λ text a. andThen (passAt 10 text a) (λ next. Ok (endLine, next))) (λ c y. Followed (Exactly (10 ∷ [])) (λ p. (y ≡ endLine) × (p ≡ []))) Any
+      agrees-as (end-rest S) _ EndRest Any to from
+      (word-then endWord (λ text a. andThen (passAt 10 text a) (λ next. Ok (endLine, next))) (λ c y. Followed (Exactly (10 ∷ [])) (λ p. (y ≡ endLine) × (p ≡ []))) Any
       (byte-then 10 (λ text m. Ok (endLine, m)) (λ c y p. (y ≡ endLine) × (p ≡ [])) Any (agrees-done endLine Any)))
     where
-      to : (c : Care) (y : Line S) (text : List ℕ) → Followed (Exactly (101 ∷ 110 ∷ 100 ∷ 41 ∷ [])) (Followed (Exactly (10 ∷ [])) (λ p. (y ≡ endLine) × (p ≡ []))) text → EndRest c y text
+      to : (c : Care) (y : Line S) (text : List ℕ) → Followed (Exactly endWord) (Followed (Exactly (10 ∷ [])) (λ p. (y ≡ endLine) × (p ≡ []))) text → EndRest c y text
       to c y text f =
-          (f .second .second .0, f .whole ∙ ap (λ t. t ++ f .back) (f .first) ∙ ap (λ t. 101 ∷ 110 ∷ 100 ∷ 41 ∷ t) (ended (Exactly (10 ∷ [])) (y ≡ endLine) (f .back) (f .second)))
+          (f .second .second .0, f .whole ∙ ap (λ t. t ++ f .back) (f .first) ∙ ap (λ t. endWord ++ t) (ended (Exactly (10 ∷ [])) (y ≡ endLine) (f .back) (f .second)))
 
-      from : (c : Care) (y : Line S) (text : List ℕ) → EndRest c y text → Followed (Exactly (101 ∷ 110 ∷ 100 ∷ 41 ∷ [])) (Followed (Exactly (10 ∷ [])) (λ p. (y ≡ endLine) × (p ≡ []))) text
+      from : (c : Care) (y : Line S) (text : List ℕ) → EndRest c y text → Followed (Exactly endWord) (Followed (Exactly (10 ∷ [])) (λ p. (y ≡ endLine) × (p ≡ []))) text
       from c y text (e, t) =
-          record { front = 101 ∷ 110 ∷ 100 ∷ 41 ∷ []; back = 10 ∷ []; whole = t; first = refl; second = unended (Exactly (10 ∷ [])) (y ≡ endLine) (10 ∷ []) e refl }
+          record { front = endWord; back = 10 ∷ []; whole = t; first = refl; second = unended (Exactly (10 ∷ [])) (y ≡ endLine) (10 ∷ []) e refl }
 
   -- an atom, from its number on
   module _ (stampAt : List ℕ → ℕ → Result (S × ℕ) Fault) (spells : Care → S → List ℕ → Type 0) (stamps : Agrees stampAt spells NoDigit) where
     abbrev pub AtomRest : Care → Line S → List ℕ → Type 0
     AtomRest c y text = (a : Atom S) × (y ≡ atomLine a) × Kept c (atoms < room .atoms) × Followed (Numbered c atoms) (Followed (Exactly (kindText (a .reading))) (Followed (spells c (a .stamp)) (Exactly closing))) text
-
-    abbrev pub atom-rest : ℕ → List ℕ → ℕ → Result (Line S × ℕ) Fault
-    atom-rest at text a =
-        ifRoom at atoms (room .atoms)
-        (andThen (nextNumber text atoms a)
-        (λ b. andThen (passAt 32 text b)
-        (λ c. andThen (readingAt text c)
-        (λ k. andThen (stampAt text (k .1))
-        (λ s. andThen (passWord closing text (s .1))
-        (λ next. Ok (atomLine (record { stamp = s .0; reading = k .0 }), next)))))))
 
     abbrev Kinded : Care → Bool → List ℕ → Type 0
     Kinded c k piece = Exactly (cond k inWord outWord) piece
@@ -197,9 +168,9 @@ module _ (S : Type 0) (room : Room) (atoms rules : ℕ) where
         let kind : Via Kinded Stamped c y (g .back) = record { value = a .reading; parts = record { front = h .front; back = h .back; whole = h .whole; first = h .first; second = stamp } } in
         (kept-map c (lt-leb (room .atoms) atoms) k, record { front = f .front; back = f .back; whole = f .whole; first = f .first; second = record { front = g .front; back = g .back; whole = g .whole; first = g .first; second = kind } })
 
-    pub atom-rest-agrees : (at : ℕ) → Agrees (atom-rest at) AtomRest Any
+    pub atom-rest-agrees : (at : ℕ) → Agrees (atom-rest S room atoms rules stampAt at) AtomRest Any
     atom-rest-agrees at =
-        agrees-as (atom-rest at) _ AtomRest Any atom-to atom-from
+        agrees-as (atom-rest S room atoms rules stampAt at) _ AtomRest Any atom-to atom-from
         (agrees-unless (Reading (TooMany at)) tt _ (λ c y. Followed (Numbered c atoms) (AtomSaid c y)) Any
         (numbered-then atoms (λ text b. andThen (passAt 32 text b) (λ c. andThen (readingAt text c) (λ k. andThen (stampAt text (k .1)) (λ s. andThen (passWord closing text (s .1)) (λ next. Ok (atomLine (record { stamp = s .0; reading = k .0 }), next)))))) AtomSaid Any said-agrees
         (λ c y piece rest g. starts 32 [] (Via Kinded Stamped c y) piece rest refl g))

@@ -1,22 +1,15 @@
 -- The laws of the text, from what each kind of stamp keeps.
-use Prim.Native.Nat.{ℕ, _+_, _^_, _<_, _≤_, min}
-use mathlib.Core.Bool.{Bool, cond}
-use mathlib.Core.List.{List, _++_}
-use mathlib.Core.Logic.{_⊎_, inl, inr}
-use mathlib.Core.Path.{_≡_, refl, sym, ap, _∙_, subst}
+use Prim.Native.Nat.{ℕ}
+use mathlib.Core.List.{List}
+use mathlib.Core.Logic.{inl, inr}
+use mathlib.Core.Path.{_≡_, refl, sym, ap, _∙_}
 use native.Mathlib.Omega.{arith}
-use lib.ListN.{length, take}
-use Rattle.std.specs.Finite.{All}
-use Rattle.std.specs.declared.option.Option.{Option}
-use Rattle.std.specs.declared.option.Option.the-variants.{Some, None}
+use lib.ListN.{length}
 use Rattle.std.specs.declared.result.Result.{Result}
 use Rattle.std.specs.declared.result.Result.the-variants.{Ok, Err}
 use Rattle.books.specs.Check.{bookFault, unless}
 use Rattle.books.specs.Meaning.{Meaning}
 use Rattle.books.specs.declared.fault.Fault.{Fault}
-use Rattle.stamps.specs.declared.tick.Tick.{Tick}
-use Rattle.stamps.specs.declared.route.Route.{Route}
-use Rattle.stamps.specs.declared.then.Then.{Then}
 use Rattle.text.specs.Bytes.{andThen}
 use Rattle.text.specs.Forms.{formAt}
 use Rattle.text.specs.Reads.{roomOf}
@@ -26,14 +19,14 @@ use Rattle.writing.specs.Replies.{checkedText, canonicalAt}
 use Rattle.writing.specs.Writes.{bookGap, writeAnswer}
 use Rattle.grammar.proofs.Agreement.{Agrees}
 use Rattle.grammar.specs.Notations.{Notation, ticks, routes, pairs}
-use Rattle.grammar.specs.Pieces.{Care, shape, kept, plain}
-use Rattle.grammar.specs.Theorems.{Takes, readAs, writtenOf, SpeltBy, Fitting, ReadAsSpelt, ReadingIsTheGrammar, WrittenIsReadBack, ComesBack, AcceptedComesBack, CanonicalIsUnchanged, DegreesNest, AnswerIsItsOwn, RefusedThere, RefusedAtTheFirstByte}
+use Rattle.grammar.specs.Pieces.{kept, plain}
+use Rattle.grammar.specs.Theorems.{readAs, writtenOf, ReadingIsTheGrammar, WrittenIsReadBack, AcceptedComesBack, CanonicalIsUnchanged, DegreesNest, AnswerIsItsOwn, RefusedAtTheFirstByte}
 use Rattle.grammar.proofs.Agreeing.{Any, agrees-before}
 use Rattle.grammar.proofs.Aisled.{route-agrees}
 use Rattle.grammar.proofs.Books.{book-canonical, book-unique, spelt-held, spelt-gapless, plain-kept, tick-plain-kept, pair-plain-kept, route-plain-kept}
 use Rattle.grammar.proofs.Canonical.{tick-canonical, tick-unique, tick-fits, pair-canonical, pair-unique, pair-fits}
 use Rattle.grammar.proofs.Lines.{FormAt}
-use Rattle.grammar.proofs.Lists.{NoDigit}
+use Rattle.grammar.proofs.Numbers.{NoDigit}
 use Rattle.grammar.proofs.Rests.{Going}
 use Rattle.grammar.proofs.Routes.{route-canonical, route-unique, route-fits}
 use Rattle.grammar.proofs.Staged.{forms-agree}

@@ -1,5 +1,7 @@
 pub mod Agreement
 pub mod Places
+pub mod Keeping
+pub mod Following
 pub mod Agreeing
 pub mod Choosing
 pub mod Numbers
@@ -12,13 +14,13 @@ pub mod Bodies
 pub mod Formed
 pub mod Gaps
 pub mod Books
+pub mod Dispatch
 pub mod Forms
 pub mod Rests
 pub mod Onward
 pub mod Turned
 pub mod Whole
 pub mod Stamped
-pub mod Dispatch
 pub mod Aisled
 pub mod Staged
 pub mod Laws

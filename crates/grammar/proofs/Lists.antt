@@ -1,83 +1,33 @@
 -- Numbers in brackets, each tested as it is read, agree with the grammar of lists.
-use Prim.Native.Nat.{ℕ, zero, suc, _+_, _≤_, _<_}
+use Prim.Native.Nat.{ℕ, zero, suc, _+_, _<_}
 use mathlib.Core.Bool.{Bool, true, false, cond}
 use mathlib.Core.List.{List, [], _∷_, _++_}
 use mathlib.Core.Logic.{_⊎_, inl, inr}
 use mathlib.Core.Path.{_≡_, refl, sym, ap, _∙_, subst}
 use native.Mathlib.Omega.{arith}
-use lib.ListN.{length, drop}
-use Rattle.std.proofs.shelf.Lists.{append-assoc, append-nil}
+use Rattle.std.proofs.shelf.Lists.{append-assoc}
 use Rattle.std.proofs.shelf.Tests.{ne-eqb}
 use Rattle.std.specs.Finite.{nth}
 use Rattle.std.specs.Text.{digitValue}
-use Rattle.std.specs.declared.option.Option.{Option}
-use Rattle.std.specs.declared.option.Option.the-variants.{Some, None}
 use Rattle.std.specs.declared.result.Result.{Result}
 use Rattle.std.specs.declared.result.Result.the-variants.{Ok, Err}
 use Rattle.books.specs.declared.fault.Fault.{Fault}
 use Rattle.text.specs.Bytes.{andThen, passAt}
 use Rattle.text.specs.Numbers.{digitOf, numberAt}
 use Rattle.text.specs.Words.{isByte}
-use Rattle.grammar.specs.Pieces.{Care, shape, kept, plain, Kept, Exactly, Followed, Numeral, Spaced, Listed}
+use Rattle.grammar.specs.Pieces.{Care, shape, Kept, Exactly, Followed, Numeral, Spaced, Listed}
 use Rattle.grammar.proofs.Agreement.{AtByte, Agrees}
 use Rattle.grammar.proofs.Agreeing.{Any, Via, agrees-same, agrees-as, agrees-then, agrees-done, byte-then}
-use Rattle.grammar.proofs.Choosing.{kept-map, agrees-choice, agrees-unless, agrees-never}
-use Rattle.grammar.proofs.Numbers.{number-agrees}
-
--- a text that does not begin with a digit
-abbrev pub NoDigit : List ℕ → Type 0
-NoDigit rest = digitOf (nth rest 0) ≡ None
-
--- two pieces of a sequence, bracketed the other way
-pub regroup : (A B C : List ℕ → Type 0) (text : List ℕ) → Followed A (Followed B C) text → Followed (Followed A B) C text
-regroup A B C text f =
-    let g = f .second in
-    record {
-      front = f .front ++ g .front;
-      back = g .back;
-      whole = f .whole ∙ ap (λ t. f .front ++ t) (g .whole) ∙ sym (append-assoc (f .front) (g .front) (g .back));
-      first = record { front = f .front; back = g .front; whole = refl; first = f .first; second = g .first };
-      second = g .second;
-    }
-
-pub ungroup : (A B C : List ℕ → Type 0) (text : List ℕ) → Followed (Followed A B) C text → Followed A (Followed B C) text
-ungroup A B C text f =
-    let g = f .first in
-    record {
-      front = g .front;
-      back = g .back ++ f .back;
-      whole = f .whole ∙ ap (λ t. t ++ f .back) (g .whole) ∙ append-assoc (g .front) (g .back) (f .back);
-      first = g .first;
-      second = record { front = g .back; back = f .back; whole = refl; first = g .second; second = f .second };
-    }
-
-pub followed-map : (A B C D : List ℕ → Type 0) (text : List ℕ) → ((t : List ℕ) → A t → C t) → ((t : List ℕ) → B t → D t) → Followed A B text → Followed C D text
-followed-map A B C D text f g h = record { front = h .front; back = h .back; whole = h .whole; first = f (h .front) (h .first); second = g (h .back) (h .second) }
-
-pub numeral-shaped : (c : Care) (limit n : ℕ) (text : List ℕ) → Numeral c limit n text → Numeral shape limit n text
-numeral-shaped c limit n text h = record { digits = h .digits; some = h .some; few = h .few; means = h .means; within = tt; plainly = tt }
+use Rattle.grammar.proofs.Choosing.{agrees-choice, agrees-unless, agrees-never}
+use Rattle.grammar.proofs.Following.{followed-map, regroup, ungroup, ended, unended, first-of}
+use Rattle.grammar.proofs.Keeping.{kept-map, kept-fact, kept-three}
+use Rattle.grammar.proofs.Numbers.{number-agrees, NoDigit, numeral-shaped}
 
 pub spaced-shaped : (c : Care) (limit : ℕ) (ns text : List ℕ) → Spaced c limit ns text → Spaced shape limit ns text
 spaced-shaped c limit [] text h = h
 spaced-shaped c limit (n ∷ []) text h = numeral-shaped c limit n text h
 spaced-shaped c limit (n ∷ m ∷ ns) text h =
     followed-map _ _ _ _ text (numeral-shaped c limit n) (λ t. followed-map _ _ _ _ t (λ u e. e) (spaced-shaped c limit (m ∷ ns))) h
-
--- two rules that are kept
-pub kept-both : (P Q : Type 0) (c : Care) → Kept c P → Kept c Q → Kept c (P × Q)
-kept-both P Q shape p q = tt
-kept-both P Q kept p q = (p, q)
-kept-both P Q plain p q = (p, q)
-
-pub kept-three : (P Q R : Type 0) (c : Care) → Kept c P → Kept c Q → Kept c R → Kept c (P × Q × R)
-kept-three P Q R shape p q r = tt
-kept-three P Q R kept p q r = (p, q, r)
-kept-three P Q R plain p q r = (p, q, r)
-
-pub kept-fact : (P : Type 0) (c : Care) → P → Kept c P
-kept-fact P shape p = tt
-kept-fact P kept p = p
-kept-fact P plain p = p
 
 -- a number begins with a digit, which is no bracket
 pub starts-digit : (c : Care) (limit n : ℕ) (text rest : List ℕ) → Numeral c limit n text → isByte 41 (nth (text ++ rest) 0) ≡ false
@@ -90,13 +40,6 @@ starts-digit c limit n (b ∷ text) rest h = ne-eqb b 41 (λ e. not-digit b e (h
 -- no test is both passed and failed
 pub clash : (b : Bool) → b ≡ true → b ≡ false → ⊥
 clash b t f = let z : _≡_ {A = ℕ} 0 1 = cc in absurd (omega arith)
-
--- a piece and then nothing more
-pub ended : (A : List ℕ → Type 0) (P : Type 0) (text : List ℕ) → Followed A (λ p. P × (p ≡ [])) text → A text
-ended A P text f = subst A (sym (f .whole ∙ ap (λ t. f .front ++ t) (f .second .1) ∙ append-nil (f .front))) (f .first)
-
-pub unended : (A : List ℕ → Type 0) (P : Type 0) (text : List ℕ) → P → A text → Followed A (λ p. P × (p ≡ [])) text
-unended A P text x a = record { front = text; back = []; whole = sym (append-nil text); first = a; second = (x, refl) }
 
 -- what is known so far, with one more number; two tests that refuse it, and their faults
 module _ {A : Type 0} (limit : ℕ) (add : A → ℕ → A) (first second : A → ℕ → Bool) (fault fault2 : ℕ → A → ℕ → Fault) where
@@ -199,8 +142,8 @@ module _ {A : Type 0} (limit : ℕ) (add : A → ℕ → A) (first second : A �
 
   -- a space or a bracket is no digit
   tested-stops : (c : Care) (s : A) (v : ℕ) (t : A) (piece rest : List ℕ) → Tested s v c t piece → NoDigit (piece ++ rest)
-  tested-stops c s v t piece rest (k, (l, inl f)) = ap (λ p. digitOf (nth (p ++ rest) 0)) (f .whole ∙ ap (λ p. p ++ f .back) (f .first))
-  tested-stops c s v t piece rest (k, (l, inr f)) = ap (λ p. digitOf (nth (p ++ rest) 0)) (f .whole ∙ ap (λ p. p ++ f .back) (f .first))
+  tested-stops c s v t piece rest (k, (l, inl f)) = ap digitOf (first-of _ _ _ piece rest f)
+  tested-stops c s v t piece rest (k, (l, inr f)) = ap digitOf (first-of _ _ _ piece rest f)
 
   -- a whole list of numbers, none of which is refused
   pub record Bracketed (c : Care) (s t : A) (text : List ℕ) : Type 0 where
@@ -247,8 +190,8 @@ module _ {A : Type 0} (limit : ℕ) (add : A → ℕ → A) (first second : A �
         agrees-choice 32 (λ text at. andThen (passAt 32 text at) (next text)) (λ text at. andThen (passAt 41 text at) (λ m. Ok (s, m))) _ _ Any
         (byte-then 32 next (λ c t. Tail c s t) Any a)
         (byte-then 41 (λ text at. Ok (s, at)) (λ c t p. (t ≡ s) × (p ≡ [])) Any (agrees-done s Any))
-        (λ c t piece rest f. ap (λ p. isByte 32 (nth (p ++ rest) 0)) (f .whole ∙ ap (λ p. p ++ f .back) (f .first)))
-        (λ c t piece rest f. ap (λ p. isByte 32 (nth (p ++ rest) 0)) (f .whole ∙ ap (λ p. p ++ f .back) (f .first)))
+        (λ c t piece rest f. ap (isByte 32) (first-of _ _ _ piece rest f))
+        (λ c t piece rest f. ap (isByte 32) (first-of _ _ _ piece rest f))
 
     -- where one of the tests refuses the number, no piece keeps the rules
     refused-agrees : (next : List ℕ → ℕ → Result (A × ℕ) Fault) (at : ℕ) (s : A) (v : ℕ) → (first s v ≡ true) ⊎ (second s v ≡ true) → Agrees (tested next at s v) (Tested s v) Any
@@ -294,5 +237,5 @@ module _ {A : Type 0} (limit : ℕ) (add : A → ℕ → A) (first second : A �
           (agrees-choice 41 (λ text at. andThen (passAt 41 text at) (λ k. Ok (s, k))) (run (suc n) s) _ _ Any
           (byte-then 41 (λ text at. Ok (s, at)) (λ c t p. (t ≡ s) × (p ≡ [])) Any (agrees-done s Any))
           (run-agrees n s h)
-          (λ c t piece rest f. ap (λ p. isByte 41 (nth (p ++ rest) 0)) (f .whole ∙ ap (λ p. p ++ f .back) (f .first)))
+          (λ c t piece rest f. ap (isByte 41) (first-of _ _ _ piece rest f))
           (λ c t piece rest tail. tail-no-bracket c s t piece rest tail)))

@@ -29,6 +29,14 @@ use Rattle.grammar.proofs.Agreement.{Same, Shared, Between, Seen, ShapeOnly, R
 use Rattle.grammar.specs.Pieces.{Care, shape, kept, plain, Kept, Numeral}
 use Rattle.grammar.proofs.Places.{nth-front, between-join, between-none, between-one, drop-past}
 
+-- a text that does not begin with a digit
+abbrev pub NoDigit : List ℕ → Type 0
+NoDigit rest = digitOf (nth rest 0) ≡ None
+
+-- whatever rules a number keeps, it has the shape of one
+pub numeral-shaped : (c : Care) (limit n : ℕ) (text : List ℕ) → Numeral c limit n text → Numeral shape limit n text
+numeral-shaped c limit n text h = record { digits = h .digits; some = h .some; few = h .few; means = h .means; within = tt; plainly = tt }
+
 digit-value : (b : ℕ) → 48 ≤ b → b ≤ 57 → digitValue b ≡ b - 48
 digit-value b lo hi = rw (le-ltb b 48 lo, lt-ltb b 58 (omega arith)) refl
 
@@ -151,9 +159,6 @@ number-shared limit text other at =
 abbrev Spelt : ℕ → Care → ℕ → List ℕ → Type 0
 Spelt limit c n piece = Numeral c limit n piece
 
-number-shaped : (limit : ℕ) (c : Care) (n : ℕ) (piece : List ℕ) → Spelt limit c n piece → Spelt limit shape n piece
-number-shaped limit c n piece g = record { digits = g .digits; some = g .some; few = g .few; means = g .means; within = tt; plainly = tt }
-
 naught : (limit : ℕ) → Spelt limit shape 0 (48 ∷ [])
 naught limit = record { digits = (omega arith, tt); some = omega arith; few = omega arith; means = refl; within = tt; plainly = tt }
 
@@ -189,7 +194,7 @@ no-digit b o h e n =
     omega arith
 
 -- two runs of digits at one place are one, where neither goes on beyond the other's end
-same-run : (ds es r s : List ℕ) → Digits 10 ds → Digits 10 es → ds ++ r ≡ es ++ s → (length ds < length es → digitOf (nth r 0) ≡ None) → digitOf (nth s 0) ≡ None → ds ≡ es
+same-run : (ds es r s : List ℕ) → Digits 10 ds → Digits 10 es → ds ++ r ≡ es ++ s → (length ds < length es → NoDigit r) → NoDigit s → ds ≡ es
 same-run [] [] r s ds es e f g = refl
 same-run [] (c ∷ cs) r s ds es e f g = absurd (no-digit c (nth r 0) (es .0) (ap (λ t. nth t 0) e) (f (omega arith)))
 same-run (b ∷ bs) [] r s ds es e f g = absurd (no-digit b (nth s 0) (ds .0) (ap (λ t. nth t 0) (sym e)) g)
@@ -200,10 +205,10 @@ same-run (b ∷ bs) (c ∷ cs) r s ds es e f g =
     cc
 
 -- a number in the text is the run that is found
-number-run : (text : List ℕ) (at limit : ℕ) (c : Care) (n : ℕ) (piece rest : List ℕ) → Numeral c limit n piece → digitOf (nth rest 0) ≡ None → drop at text ≡ piece ++ rest → digitsFrom text at 10 ≡ (n, at + length piece)
+number-run : (text : List ℕ) (at limit : ℕ) (c : Care) (n : ℕ) (piece rest : List ℕ) → Numeral c limit n piece → NoDigit rest → drop at text ≡ piece ++ rest → digitsFrom text at 10 ≡ (n, at + length piece)
 number-run text at limit c n piece rest g stop e =
     let ds = run text at 10 in
-    let ended : length (ds .piece) < length piece → digitOf (nth (drop (ds .next) text) 0) ≡ None = λ l. ap digitOf (sym (nth-front text (ds .next))) ∙ ds .ended (omega arith) in
+    let ended : length (ds .piece) < length piece → NoDigit (drop (ds .next) text) = λ l. ap digitOf (sym (nth-front text (ds .next))) ∙ ds .ended (omega arith) in
     let same = same-run (ds .piece) piece (drop (ds .next) text) rest (ds .digits) (g .digits) (sym (ds .between .stands) ∙ e) ended stop in
     ds .found ∙ ap (λ (k : ℕ). (value 10 (ds .piece), k)) (ds .between .place) ∙ ap (λ (t : List ℕ). (value 10 t, at + length t)) same ∙ ap (λ (v : ℕ). (v, at + length piece)) (g .means)
 
@@ -213,7 +218,7 @@ over-shape shape limit n l k = tt
 over-shape kept limit n l k = omega arith
 over-shape plain limit n l k = omega arith
 
-module _ (text : List ℕ) (at limit : ℕ) (c : Care) (n : ℕ) (piece rest : List ℕ) (g : Numeral c limit n piece) (stop : digitOf (nth rest 0) ≡ None) (e : drop at text ≡ piece ++ rest) where
+module _ (text : List ℕ) (at limit : ℕ) (c : Care) (n : ℕ) (piece rest : List ℕ) (g : Numeral c limit n piece) (stop : NoDigit rest) (e : drop at text ≡ piece ++ rest) where
   reads-by : (r : Result (ℕ × ℕ) Fault) → Way text at limit (n, at + length piece) r → Reads c r n (at + length piece)
   reads-by r (none h) = absurd (omega arith)
   reads-by r (more d h) =
@@ -230,10 +235,10 @@ module _ (text : List ℕ) (at limit : ℕ) (c : Care) (n : ℕ) (piece rest : L
       rw (number-run text at limit c n piece rest g stop e) (reads-by (judged text at limit p) (judge text at limit p))
 
 -- reading a number is reading a numeral after which no digit follows
-pub number-agrees : (limit : ℕ) → Agrees (λ text at. numberAt text at limit) (λ c n piece. Numeral c limit n piece) (λ rest. digitOf (nth rest 0) ≡ None)
+pub number-agrees : (limit : ℕ) → Agrees (λ text at. numberAt text at limit) (λ c n piece. Numeral c limit n piece) NoDigit
 number-agrees limit =
     record {
-      shaped = number-shaped limit;
+      shaped = λ c n piece. numeral-shaped c limit n piece;
       sample = (0, 48 ∷ [], naught limit);
       shared = number-shared limit;
       seen = number-seen limit;

@@ -19,14 +19,10 @@ use Rattle.text.specs.declared.reader.Stage.{Stage}
 use Rattle.text.specs.declared.reader.Stage.the-variants.{Start, Atoms, Rules, End}
 use Rattle.grammar.specs.Pieces.{Care, shape, kept, plain, Kept, Followed}
 use Rattle.grammar.proofs.Agreement.{Agrees}
-use Rattle.grammar.proofs.Agreeing.{Via, agrees-as, agrees-then, agrees-done}
+use Rattle.grammar.proofs.Agreeing.{Any, Via, agrees-as, agrees-then, agrees-done}
 use Rattle.grammar.proofs.Choosing.{agrees-never}
 use Rattle.grammar.proofs.Lines.{FormAt}
 use Rattle.grammar.proofs.Rests.{Going, bare, Rest, rest-sample}
-
--- whatever follows
-abbrev Any : List ℕ → Type 0
-Any rest = Unit {0}
 
 -- what is read, changed
 agrees-map : {X Y : Type 0} (f : X → Y) (P : List ℕ → ℕ → Result (X × ℕ) Fault) (G : Care → X → List ℕ → Type 0) → Agrees P G Any → Agrees (λ text at. andThen (P text at) (λ p. Ok (f (p .0), p .1))) (λ c y piece. (x : X) × (y ≡ f x) × G c x piece) Any

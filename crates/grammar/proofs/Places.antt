@@ -1,5 +1,5 @@
 -- What stands at a place of a text, and from it on.
-use Prim.Native.Nat.{ℕ, zero, suc, _+_, _≤_}
+use Prim.Native.Nat.{ℕ, zero, suc, _+_}
 use mathlib.Core.List.{List, [], _∷_, _++_}
 use mathlib.Core.Path.{_≡_, refl, sym, ap, _∙_}
 use native.Mathlib.Numerals.{add-one}
@@ -7,8 +7,7 @@ use native.Mathlib.Omega.{arith}
 use lib.ListN.{length, drop}
 use Rattle.std.proofs.shelf.Lists.{append-assoc, length-append, drop-drop, drop-at}
 use Rattle.std.specs.Finite.{nth}
-use Rattle.std.specs.declared.option.Option.{Option}
-use Rattle.std.specs.declared.option.Option.the-variants.{Some, None}
+use Rattle.std.specs.declared.option.Option.the-variants.{Some}
 use Rattle.grammar.proofs.Agreement.{Between}
 
 -- the byte at a place is the first of what stands from it on

@@ -14,9 +14,9 @@ use Rattle.text.specs.declared.reader.Stage.{Stage}
 use Rattle.text.specs.declared.reader.Stage.the-variants.{Start, Atoms, Rules, End}
 use Rattle.grammar.specs.Pieces.{Care, shape, kept, Kept, Exactly, Followed}
 use Rattle.grammar.specs.Grammar.{AtomForm, AtomForms, RuleForm, RuleForms, OrderForm, Spells}
-use Rattle.grammar.proofs.Choosing.{kept-map}
+use Rattle.grammar.proofs.Following.{followed-map, regroup, ungroup}
+use Rattle.grammar.proofs.Keeping.{kept-map}
 use Rattle.grammar.proofs.Lines.{AtomNext, FormAt}
-use Rattle.grammar.proofs.Lists.{regroup, ungroup, followed-map}
 
 -- the stages at which a form may follow
 abbrev pub Going : Stage → Type 0

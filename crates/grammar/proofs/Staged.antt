@@ -1,18 +1,17 @@
 -- The form at which a reader stands agrees with the forms that are allowed there.
-use Prim.Native.Nat.{ℕ, _+_, _<_}
-use mathlib.Core.Bool.{Bool, cond}
+use Prim.Native.Nat.{ℕ, _+_}
+use mathlib.Core.Bool.{cond}
 use mathlib.Core.List.{List, [], _∷_, _++_}
 use mathlib.Core.Logic.{_⊎_, inl, inr}
 use mathlib.Core.Path.{_≡_, refl, sym, ap, _∙_, subst}
-use native.Mathlib.Omega.{arith}
+use lib.Chars.{codes}
 use Rattle.std.specs.Finite.{nth}
-use Rattle.std.specs.declared.option.Option.{Option}
 use Rattle.std.specs.declared.option.Option.the-variants.{Some, None}
 use Rattle.std.specs.declared.result.Result.{Result}
-use Rattle.std.specs.declared.result.Result.the-variants.{Ok, Err}
+use Rattle.std.specs.declared.result.Result.the-variants.{Ok}
 use Rattle.books.specs.Meaning.{Rule, Atom}
 use Rattle.books.specs.declared.fault.Fault.{Fault}
-use Rattle.text.specs.Bytes.{andThen, passAt}
+use Rattle.text.specs.Bytes.{andThen}
 use Rattle.text.specs.Forms.{Line, orderLine, atomLine, ruleLine, endLine, closing, orderAt, formAt}
 use Rattle.text.specs.Kinds.{orderOpening, atomOpening, ruleOpening, voidOpening}
 use Rattle.text.specs.Spelt.{space, endText, kindText}
@@ -20,25 +19,23 @@ use Rattle.text.specs.Words.{passWord, isByte}
 use Rattle.text.specs.declared.reader.Room.{Room}
 use Rattle.text.specs.declared.reader.Stage.{Stage}
 use Rattle.text.specs.declared.reader.Stage.the-variants.{Start, Atoms, Rules, End}
-use Rattle.grammar.specs.Pieces.{Care, Kept, Exactly, Followed}
-use Rattle.grammar.specs.Grammar.{OrderForm, AtomForm, RuleForm, Numbered, Declared, Body}
+use Rattle.grammar.specs.Pieces.{Care, Exactly, Followed}
+use Rattle.grammar.specs.Grammar.{OrderForm, Numbered, Declared, Body}
 use Rattle.grammar.proofs.Agreement.{Agrees}
-use Rattle.grammar.proofs.Agreeing.{Any, agrees-same, agrees-as, agrees-done, byte-then-at, word-then, word-to, word-from}
+use Rattle.grammar.proofs.Agreeing.{Any, agrees-same, agrees-as, agrees-done, byte-then-at, word-then}
 use Rattle.grammar.proofs.Choosing.{agrees-choice}
-use Rattle.grammar.proofs.Dispatch.{afterAtom, afterRule, afterVoid, afterEnd, start-same, rules-same, atoms-same}
+use Rattle.grammar.proofs.Dispatch.{atomWord, ruleWord, voidWord, rule-rest, void-rest, atom-rest, afterAtom, afterRule, afterVoid, afterEnd, start-same, rules-same, atoms-same}
+use Rattle.grammar.proofs.Following.{under, regroup, ungroup, ended, unended, word-to, word-from, first-of}
 use Rattle.grammar.proofs.Formed.{Parts}
-use Rattle.grammar.proofs.Forms.{RuleRest, rule-rest, rule-rest-agrees, VoidRest, void-rest, void-rest-agrees, EndRest, end-rest, end-rest-agrees, AtomRest, atom-rest, atom-rest-agrees}
-use Rattle.grammar.proofs.Lines.{AtomNext, LateForm, FormAt}
-use Rattle.grammar.proofs.Lists.{NoDigit, ended, unended, regroup, ungroup, followed-map}
+use Rattle.grammar.proofs.Forms.{RuleRest, rule-rest-agrees, VoidRest, void-rest-agrees, EndRest, end-rest-agrees, AtomRest, atom-rest-agrees}
+use Rattle.grammar.proofs.Lines.{LateForm, FormAt}
+use Rattle.grammar.proofs.Numbers.{NoDigit}
 use Rattle.grammar.proofs.Rests.{Going}
 
 -- the parts of a rule and the end of its form, bracketed as the grammar has them
 abbrev Closing : Care → ℕ → Rule → List ℕ → Type 0
 Closing c atoms r =
     Followed (Exactly space) (Followed (Declared c atoms (r .head)) (Followed (Exactly space) (Followed (Body c atoms (r .positives)) (Followed (Exactly space) (Followed (Body c atoms (r .negatives)) (Exactly closing))))))
-
-under : (A B C : List ℕ → Type 0) (text : List ℕ) → ((t : List ℕ) → B t → C t) → Followed A B text → Followed A C text
-under A B C text f h = followed-map A B A C text (λ t a. a) f h
 
 parts-open : (c : Care) (atoms : ℕ) (r : Rule) (text : List ℕ) → Followed (Parts c atoms r) (Exactly closing) text → Closing c atoms r text
 parts-open c atoms r text h =
@@ -62,16 +59,6 @@ parts-shut c atoms r text h =
     regroup (Body c atoms (r .positives)) (Followed (Exactly space) (Body c atoms (r .negatives))) (Exactly closing) v
     (under _ _ _ v (λ w k. regroup (Exactly space) (Body c atoms (r .negatives)) (Exactly closing) w k) j)) i)) g)) h)
 
--- "rule ", "void " and "atom ", as they stand after the bracket
-abbrev ruleWord : List ℕ
-ruleWord = 114 ∷ 117 ∷ 108 ∷ 101 ∷ 32 ∷ []
-
-abbrev voidWord : List ℕ
-voidWord = 118 ∷ 111 ∷ 105 ∷ 100 ∷ 32 ∷ []
-
-abbrev atomWord : List ℕ
-atomWord = 97 ∷ 116 ∷ 111 ∷ 109 ∷ 32 ∷ []
-
 module _ {S : Type 0} (stampAt : List ℕ → ℕ → Result (S × ℕ) Fault) (word : List ℕ) (spells : Care → S → List ℕ → Type 0) (room : Room) (stamps : Agrees stampAt spells NoDigit) (atoms rules : ℕ) where
   abbrev RuleAfter : Care → Line S → List ℕ → Type 0
   RuleAfter c y = Followed (Exactly ruleWord) (RuleRest S room atoms rules c y)
@@ -88,10 +75,6 @@ module _ {S : Type 0} (stampAt : List ℕ → ℕ → Result (S × ℕ) Fault) (
   abbrev AtomAfter : Care → Line S → List ℕ → Type 0
   AtomAfter c y = Followed (Exactly atomWord) (AtomRest S room atoms rules stampAt spells stamps c y)
 
-  -- a choice by the first byte of a word
-  first-byte : (byte b : ℕ) (rest : List ℕ) (A : List ℕ → Type 0) (piece more : List ℕ) → Followed (Exactly (b ∷ rest)) A piece → isByte byte (nth (piece ++ more) 0) ≡ isByte byte (Some b)
-  first-byte byte b rest A piece more f = ap (λ t. isByte byte (nth (t ++ more) 0)) (f .whole ∙ ap (λ t. t ++ f .back) (f .first))
-
   late-reader : ℕ → List ℕ → ℕ → Result (Line S × ℕ) Fault
   late-reader at text m = cond (isByte 114 (nth text m)) (afterRule stampAt word room atoms rules at text m) (cond (isByte 118 (nth text m)) (afterVoid stampAt word room atoms rules at text m) (afterEnd stampAt word room atoms rules text m))
 
@@ -103,13 +86,13 @@ module _ {S : Type 0} (stampAt : List ℕ → ℕ → Result (S × ℕ) Fault) (
       (agrees-choice 118 (afterVoid stampAt word room atoms rules at) (afterEnd stampAt word room atoms rules) VoidAfter EndAfter Any
       (word-then voidWord (void-rest S room atoms rules at) (VoidRest S room atoms rules) Any (void-rest-agrees S room atoms rules at))
       (end-rest-agrees S room atoms rules)
-      (λ c y piece more f. first-byte 118 118 (111 ∷ 105 ∷ 100 ∷ 32 ∷ []) (VoidRest S room atoms rules c y) piece more f)
+      (λ c y piece more f. ap (isByte 118) (first-of _ _ _ piece more f))
       (λ c y piece more e. ap (λ t. isByte 118 (nth (t ++ more) 0)) (e .1)))
-      (λ c y piece more f. first-byte 114 114 (117 ∷ 108 ∷ 101 ∷ 32 ∷ []) (RuleRest S room atoms rules c y) piece more f)
+      (λ c y piece more f. ap (isByte 114) (first-of _ _ _ piece more f))
       no-rule
     where
       no-rule : (c : Care) (y : Line S) (piece more : List ℕ) → VoidAfter c y piece ⊎ EndAfter c y piece → isByte 114 (nth (piece ++ more) 0) ≡ isByte 114 (Some 118)
-      no-rule c y piece more (inl f) = first-byte 114 118 (111 ∷ 105 ∷ 100 ∷ 32 ∷ []) (VoidRest S room atoms rules c y) piece more f
+      no-rule c y piece more (inl f) = ap (isByte 114) (first-of _ _ _ piece more f)
       no-rule c y piece more (inr e) = ap (λ t. isByte 114 (nth (t ++ more) 0)) (e .1)
 
   -- a bracket and then a form's word are its opening
@@ -143,7 +126,7 @@ module _ {S : Type 0} (stampAt : List ℕ → ℕ → Result (S × ℕ) Fault) (
       let body = under (Numbered c rules) (Closing c atoms r) (Followed (Parts c atoms r) (Exactly closing)) (g .back) (parts-shut c atoms r) (g .second) in
       record { front = f .front; back = f .back; whole = f .whole; first = f .first; second = inl (record { front = g .front; back = g .back; whole = g .whole; first = g .first; second = (r, refl, h .0, body) }) }
   late-from c endLine text h =
-      record { front = 40 ∷ []; back = 101 ∷ 110 ∷ 100 ∷ 41 ∷ 10 ∷ []; whole = h; first = refl; second = inr (inr (refl, refl)) }
+      record { front = 40 ∷ []; back = codes "end)\n"; whole = h; first = refl; second = inr (inr (refl, refl)) }
 
   rules-agree : Agrees (λ text at. formAt stampAt word text room (record { stage = Rules; next = at; atoms = atoms; rules = rules })) (FormAt word spells room Rules atoms rules) Any
   unfolding late-reader
@@ -159,14 +142,14 @@ module _ {S : Type 0} (stampAt : List ℕ → ℕ → Result (S × ℕ) Fault) (
   early-agrees : (at : ℕ) → Agrees (λ text m. cond (isByte 97 (nth text m)) (afterAtom stampAt word room atoms rules at text m) (late-reader at text m)) Early Any
   early-agrees at =
       agrees-choice 97 (afterAtom stampAt word room atoms rules at) (late-reader at) AtomAfter Late Any
-      (word-then atomWord (atom-rest S room atoms rules stampAt spells stamps at) (AtomRest S room atoms rules stampAt spells stamps) Any (atom-rest-agrees S room atoms rules stampAt spells stamps at))
+      (word-then atomWord (atom-rest S room atoms rules stampAt at) (AtomRest S room atoms rules stampAt spells stamps) Any (atom-rest-agrees S room atoms rules stampAt spells stamps at))
       (late-agrees at)
-      (λ c y piece more f. first-byte 97 97 (116 ∷ 111 ∷ 109 ∷ 32 ∷ []) (AtomRest S room atoms rules stampAt spells stamps c y) piece more f)
+      (λ c y piece more f. ap (isByte 97) (first-of _ _ _ piece more f))
       no-atom
     where
       no-atom : (c : Care) (y : Line S) (piece more : List ℕ) → Late c y piece → isByte 97 (nth (piece ++ more) 0) ≡ isByte 97 (Some 114)
-      no-atom c y piece more (inl f) = first-byte 97 114 (117 ∷ 108 ∷ 101 ∷ 32 ∷ []) (RuleRest S room atoms rules c y) piece more f
-      no-atom c y piece more (inr (inl f)) = first-byte 97 118 (111 ∷ 105 ∷ 100 ∷ 32 ∷ []) (VoidRest S room atoms rules c y) piece more f
+      no-atom c y piece more (inl f) = ap (isByte 97) (first-of _ _ _ piece more f)
+      no-atom c y piece more (inr (inl f)) = ap (isByte 97) (first-of _ _ _ piece more f)
       no-atom c y piece more (inr (inr e)) = ap (λ t. isByte 97 (nth (t ++ more) 0)) (e .1)
 
   -- what is allowed among rules is allowed among atoms

@@ -1,38 +1,19 @@
 -- Stamps agree with their grammar.
-use Prim.Native.Nat.{ℕ, zero, suc, _+_, _^_, _<_, _≤_}
-use mathlib.Core.Bool.{Bool, true, false, cond}
+use Prim.Native.Nat.{ℕ, _+_}
 use mathlib.Core.List.{List, [], _∷_, _++_}
-use mathlib.Core.Logic.{_⊎_, inl, inr}
-use mathlib.Core.Path.{_≡_, refl, sym, ap, _∙_, subst}
-use native.Mathlib.Omega.{arith}
-use lib.Bits.{bitOr}
-use lib.Dec.{ltb}
-use Rattle.std.proofs.shelf.Lists.{append-nil}
-use Rattle.std.proofs.shelf.Tests.{cases-lt, lt-ltb, le-ltb, ltb-false}
-use Rattle.std.specs.Finite.{nth, All}
-use Rattle.std.specs.declared.result.Result.{Result}
-use Rattle.std.specs.declared.result.Result.the-variants.{Ok, Err}
-use Rattle.books.specs.declared.fault.ReadFault.the-variants.{Number, NotRising}
-use Rattle.books.specs.declared.fault.Fault.{Fault}
-use Rattle.books.specs.declared.fault.Fault.the-variants.{Reading}
+use mathlib.Core.Path.{_≡_, refl, sym, ap, subst}
+use Rattle.std.specs.declared.result.Result.the-variants.{Ok}
 use Rattle.stamps.specs.declared.tick.Tick.{Tick}
-use Rattle.stamps.specs.declared.route.Route.{Route}
 use Rattle.stamps.specs.declared.then.Then.{Then}
 use Rattle.text.specs.Bytes.{andThen, passAt}
-use Rattle.text.specs.Lists.{openAt, onwardAt, emptyIf, onwardIf}
 use Rattle.text.specs.Numbers.{digitOf, numberAt}
-use Rattle.text.specs.Stamps.{tickAt, pairAt, oneAisle, noAisle, aislesAt, routeAt}
-use Rattle.text.specs.Turns.{turns, tries}
-use Rattle.text.specs.Words.{isByte}
-use Rattle.text.specs.declared.aisles.Aisles.{Aisles}
-use Rattle.grammar.specs.Pieces.{Care, Kept, Exactly, Followed, Numeral, Spaced, Listed}
-use Rattle.grammar.specs.Stamps.{TickSpelt, PairSpelt, RouteSpelt, RisingFrom, withAisles}
+use Rattle.text.specs.Stamps.{tickAt, pairAt}
+use Rattle.grammar.specs.Pieces.{Care, Exactly, Followed, Numeral}
+use Rattle.grammar.specs.Stamps.{TickSpelt, PairSpelt}
 use Rattle.grammar.proofs.Agreement.{Agrees}
-use Rattle.grammar.proofs.Agreeing.{Any, Via, then-then, agrees-same, agrees-as, agrees-then, agrees-done, byte-then}
-use Rattle.grammar.proofs.Choosing.{kept-map}
-use Rattle.grammar.proofs.Lists.{NoDigit, ended, unended, run, adds, Passes, Bracketed, listed, list-agrees, kept-both, followed-map}
-use Rattle.grammar.proofs.Numbers.{number-agrees, number-limited}
-use Rattle.grammar.proofs.Turning.{tries-first, tries-stay, onward-same, open-same}
+use Rattle.grammar.proofs.Agreeing.{Any, Via, agrees-as, agrees-then, agrees-done, byte-then}
+use Rattle.grammar.proofs.Following.{ended, unended, first-of}
+use Rattle.grammar.proofs.Numbers.{number-agrees, NoDigit}
 
 abbrev Ticked : Care → ℕ → List ℕ → Type 0
 Ticked c v piece = Numeral c 4294967295 v piece
@@ -60,7 +41,7 @@ second-agrees : (a : Tick) → Agrees (λ text m. andThen (tickAt text m) (λ b.
 second-agrees a =
     agrees-then tickAt (λ at b text m. andThen (passAt 41 text m) (λ next. Ok (record { first = a; second = b }, next))) TickSpelt (λ b c p. Followed (Exactly (41 ∷ [])) (λ q. (p ≡ record { first = a; second = b }) × (q ≡ []))) NoDigit Any tick-agrees
     (λ at b. byte-then 41 (λ text m. Ok (record { first = a; second = b }, m)) (λ c p q. (p ≡ record { first = a; second = b }) × (q ≡ [])) Any (agrees-done (record { first = a; second = b }) Any))
-    (λ c b p piece rest f s. ap (λ t. digitOf (nth (t ++ rest) 0)) (f .whole ∙ ap (λ t. t ++ f .back) (f .first)))
+    (λ c b p piece rest f s. ap digitOf (first-of _ _ _ piece rest f))
 
 abbrev First : Care → Then Tick Tick → List ℕ → Type 0
 First = Via TickSpelt (λ a c p. Followed (Exactly (32 ∷ [])) (Second a c p))
@@ -71,7 +52,7 @@ pair-agrees =
     (byte-then 40 _ First Any
     (agrees-then tickAt (λ at a text m. andThen (passAt 32 text m) (λ second. andThen (tickAt text second) (λ b. andThen (passAt 41 text (b .1)) (λ next. Ok (record { first = a; second = b .0 }, next))))) TickSpelt (λ a c p. Followed (Exactly (32 ∷ [])) (Second a c p)) NoDigit Any tick-agrees
     (λ at a. byte-then 32 (λ text m. andThen (tickAt text m) (λ b. andThen (passAt 41 text (b .1)) (λ next. Ok (record { first = a; second = b .0 }, next)))) (Second a) Any (second-agrees a))
-    (λ c a p piece rest f s. ap (λ t. digitOf (nth (t ++ rest) 0)) (f .whole ∙ ap (λ t. t ++ f .back) (f .first)))))
+    (λ c a p piece rest f s. ap digitOf (first-of _ _ _ piece rest f))))
   where
     to : (c : Care) (p : Then Tick Tick) (text : List ℕ) → Followed (Exactly (40 ∷ [])) (First c p) text → PairSpelt c p text
     to c p text f =

@@ -32,30 +32,15 @@ use Rattle.grammar.proofs.Agreeing.{then-then}
 use Rattle.grammar.proofs.Lines.{FormAt}
 use Rattle.grammar.proofs.Onward.{withAtom, withRule, onward, lines}
 use Rattle.grammar.proofs.Rests.{Going, bare}
-
-then-ok : {X : Type 0} (r : Result X Fault) → andThen r Ok ≡ r
-then-ok (Ok x) = refl
-then-ok (Err e) = refl
+use Rattle.grammar.proofs.Turning.{tries-first, tries-stay}
 
 then-same : {X Y : Type 0} (r : Result X Fault) (f g : X → Result Y Fault) → ((x : X) → f x ≡ g x) → andThen r f ≡ andThen r g
 then-same (Ok x) f g h = h x
 then-same (Err e) f g h = refl
 
--- the first turn, and then the others
-tries-first : {X : Type 0} (f : X → Result X Fault) (s : X) (n : ℕ) → tries f s (suc n) ≡ andThen (f s) (λ t. tries f t n)
-unfolding turns
-tries-first f s zero = sym (then-ok (f s))
-tries-first f s (suc n) = ap (λ r. andThen r f) (tries-first f s n) ∙ then-then (f s) (λ t. tries f t n) f
-
 tries-none : {X : Type 0} (f : X → Result X Fault) (s : X) → tries f s zero ≡ Ok s
 unfolding turns
 tries-none f s = refl
-
--- what a turn does not change stays
-tries-stay : {X : Type 0} (f : X → Result X Fault) (s : X) (n : ℕ) → f s ≡ Ok s → tries f s n ≡ Ok s
-unfolding turns
-tries-stay f s zero e = refl
-tries-stay f s (suc n) e = ap (λ r. andThen r f) (tries-stay f s n e) ∙ e
 
 -- at the end of a text no word begins
 word-ends : (word text : List ℕ) (at : ℕ) → length text ≤ at → agreesTo word text at ≡ at
@@ -173,7 +158,7 @@ module _ {S : Type 0} (stampAt : List ℕ → ℕ → Result (S × ℕ) Fault) (
             ap (λ t. andThen t finish) (tries-first form s n ∙ ap (λ q. andThen q (λ t. tries form t n)) more) ∙ sym (ap (closed xs os bare at) (nth-getD text at 0 less))
         | inr all ↦
             let stays : form s ≡ Ok s = ap (λ b. cond b (Ok s) (andThen (formAt stampAt word text room (place End at a r)) (λ p. Ok (after s p)))) (eq-eqb at (length text) (omega arith)) in
-            ap (λ t. andThen t finish) (tries-stay form s (suc n) stays) ∙ sym (ap (closed xs os bare at) (nth-past text at all) ∙ closed-bare xs os at)
+            ap (λ t. andThen t finish) (tries-stay form s stays (suc n)) ∙ sym (ap (closed xs os bare at) (nth-past text at all) ∙ closed-bare xs os at)
       ]
 
   -- the turns from a stage on are the forms from it on

@@ -10,8 +10,6 @@ use Rattle.books.specs.Meaning.{Meaning}
 use Rattle.books.specs.declared.fault.ReadFault.the-variants.{Byte, NotRising, Number, TooMany, AtomMissing}
 use Rattle.books.specs.declared.fault.Fault.the-variants.{Reading}
 use Rattle.stamps.specs.declared.tick.Tick.{Tick}
-use Rattle.stamps.specs.declared.route.Route.{Route}
-use Rattle.stamps.specs.declared.then.Then.{Then}
 use Rattle.grammar.specs.Notations.{ticks, routes, pairs}
 use Rattle.grammar.specs.Pieces.{kept, plain}
 use Rattle.grammar.specs.Theorems.{readAs, writtenOf, SpeltBy}
