@@ -1,13 +1,13 @@
 // Texts that are read, up to the limits.
-use crate::marks::TickMark;
-use crate::marks::is_rule;
-use crate::marks::laid;
-use crate::marks::mark_row;
-use crate::marks::mark_rule;
-use crate::marks::marked_row;
-use crate::marks::marked_rule;
-use crate::marks::refusal;
-use crate::marks::refused_at;
+use crate::TickMark;
+use crate::is_rule;
+use crate::laid;
+use crate::mark_row;
+use crate::mark_rule;
+use crate::marked_row;
+use crate::marked_rule;
+use crate::refusal;
+use crate::refused_at;
 use books::fault::FaultDebug;
 use makes::flat::Flat;
 use makes::flat::FlatBook;

@@ -1,5 +1,5 @@
 // Books of other makes written out and read in again.
-use crate::marks::begins_with;
+use crate::begins_with;
 use books::book::Book;
 use books::fault::FaultDebug;
 use books::fault::Values;

@@ -1,11 +1,11 @@
 // The books of the folder examples, as they stand there: a test reads no file, so their texts are literals.
-use crate::marks::RouteMark;
-use crate::marks::ThenMark;
-use crate::marks::TickMark;
-use crate::marks::begins_with;
-use crate::marks::mark_row;
-use crate::marks::mark_rule;
-use crate::marks::replies;
+use crate::RouteMark;
+use crate::ThenMark;
+use crate::TickMark;
+use crate::begins_with;
+use crate::mark_row;
+use crate::mark_rule;
+use crate::replies;
 use books::fault::Fault;
 use books::fault::FaultDebug;
 use makes::rows::AtomRow;

@@ -1,11 +1,11 @@
 // Texts that are refused, with each fault at each place where it can arise.
-use crate::marks::laid;
-use crate::marks::refused_at;
-use crate::marks::route_fault;
-use crate::marks::route_refusal;
-use crate::marks::then_refusal;
-use crate::marks::tick_refusal;
-use crate::marks::undeclared;
+use crate::laid;
+use crate::refused_at;
+use crate::route_fault;
+use crate::route_refusal;
+use crate::then_refusal;
+use crate::tick_refusal;
+use crate::undeclared;
 use books::fault::Fault;
 use books::fault::FaultPartialEq;
 use books::fault::ReadFault;

@@ -1,5 +1,5 @@
 // What the program prints.
-use crate::marks::replies;
+use crate::replies;
 use std::test::*;
 
 #[test]

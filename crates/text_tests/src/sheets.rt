@@ -1,8 +1,8 @@
 // Sheets that are too short, and books that are not written.
-use crate::marks::TickMark;
-use crate::marks::begins_with;
-use crate::marks::mark_row;
-use crate::marks::mark_rule;
+use crate::TickMark;
+use crate::begins_with;
+use crate::mark_row;
+use crate::mark_rule;
 use crate::seven::Seven;
 use crate::seven::SevenBook;
 use books::fault::FaultDebug;
