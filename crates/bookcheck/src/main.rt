@@ -1,4 +1,6 @@
 // Reads a book from standard input and writes its canonical text, or one line with the refusal.
+#![tactic(auto)]
+
 use makes::rows::AtomRow;
 use stamps::route::Route;
 use stamps::then::Then;

@@ -1,4 +1,6 @@
 // Checks a small aisle book rule by rule, then the same book with one rule broken, and then as a repeating book with a rule struck.
+#![tactic(auto)]
+
 mod lines;
 
 use anyhow::anyhow;

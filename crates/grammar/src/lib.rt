@@ -1,6 +1,8 @@
 // The grammar of the text, stated apart from the reader, and the laws that tie reading and writing to it.
 // Each function below computes nothing: its contract is a theorem about the definitions of this crate's specs/,
 // for each of the three kinds of stamps that have a word.
+#![tactic(auto)]
+
 ghost use Rattle.grammar.specs.Examples.{ExamplesHold};
 ghost use Rattle.grammar.specs.Notations.{ticks, routes, pairs};
 ghost use Rattle.grammar.specs.Programs.{ProgramRefusesThere};

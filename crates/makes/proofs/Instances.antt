@@ -1,13 +1,13 @@
 -- Steps back from a tick.
 use Rattle.std.proofs.Common.{◌≡◌, ℕ, suc, ◌+◌, ◌-◌, ◌*◌, ◌<◌, ◌≤◌, Bool, true, false, leb, List, [], ◌∷◌, ◌++◌, map, length, get_or, take, Decides, sym, refl, ap, ◌∙◌, mul-le-mul_right, add-mul, arith}
-use Rattle.std.specs.List.{AllByRecursion as All}
+use Rattle.std.specs.List.{AllByRecursion}
 use Rattle.std.proofs.ByRecursion.{All-get_or, Decides-by_and}
 use Rattle.std.proofs.lemmas.Bool.{leb-true, le-leb}
 use Rattle.std.proofs.lemmas.Bool.Decides.{not_from_Decides}
 use Rattle.makes.specs.Repeats.{started_by, atom_back}
 use Rattle.makes.specs.declared.patterns.Step.{Step}
 
-pub started_decides : (t : ℕ) (xs : List Step) → Decides (started_by t xs) (All (λ s. s.back ≤ t) xs)
+pub started_decides : (t : ℕ) (xs : List Step) → Decides (started_by t xs) (AllByRecursion (λ s. s.back ≤ t) xs)
 started_decides t xs = Decides-by_and (λ (s : Step). leb s.back t) (λ s. s.back ≤ t) (started_by t) (λ s. (leb-true s.back t, le-leb s.back t)) refl (λ _ _. refl) xs
 
 -- an atom some ticks back lies below the end of its tick

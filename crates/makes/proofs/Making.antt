@@ -1,6 +1,6 @@
 -- What is known of a repeating book that was made.
 use Rattle.std.proofs.Common.{◌≡◌, ℕ, ◌+◌, ◌*◌, ◌<◌, ◌≤◌, Bool, true, false, cond, ◌||◌, T, ltb, leb, List, ◌++◌, length, get_or, Some, None, Option, sym, refl, ap, ◌∙◌, arith}
-use Rattle.std.specs.List.{slice_get, AllByRecursion as All}
+use Rattle.std.specs.List.{slice_get, AllByRecursion}
 use Rattle.std.specs.Bool.{then_some}
 use Rattle.std.proofs.iter.runs.Lists.{nth_left, nth_right}
 use Rattle.std.proofs.ByRecursion.{All-from_get_or}
@@ -45,12 +45,12 @@ module _ (width k : ℕ) (p : Pattern) (fine : pattern_fault width k p ≡ None)
       let test = test_passes (leb width s.slot || ltb 3 s.back) (SlotMissing k (i + 1)) (sym (ap (bind_some (step_fault width k i)) e) ∙ none) in
       leb-false width s.slot (or_parts (leb width s.slot) (ltb 3 s.back) test).0
 
-  pub positives_there : All (λ s. s.slot < width) (body_items p.positives)
+  pub positives_there : AllByRecursion (λ s. s.slot < width) (body_items p.positives)
   positives_there =
       All-from_get_or (λ (s : Step). s.slot < width) (body_items p.positives) no_step
       (λ i l. slot_there i (get_or (body_items p.positives) i no_step) (omega arith) (nth_left (body_items p.positives) (body_items p.negatives) i l ∙ slice_get-get_or (body_items p.positives) i no_step l))
 
-  pub negatives_there : All (λ s. s.slot < width) (body_items p.negatives)
+  pub negatives_there : AllByRecursion (λ s. s.slot < width) (body_items p.negatives)
   negatives_there =
       All-from_get_or (λ (s : Step). s.slot < width) (body_items p.negatives) no_step
       (λ i l. slot_there (length (body_items p.positives) + i) (get_or (body_items p.negatives) i no_step) (omega arith) (nth_right (body_items p.positives) (body_items p.negatives) i ∙ slice_get-get_or (body_items p.negatives) i no_step l))

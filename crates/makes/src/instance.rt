@@ -1,6 +1,6 @@
 // What a pattern is at one tick.
 ghost use Rattle.std.specs.Prelude.{◌≡◌, ◌+◌, ◌*◌, ◌<◌, ◌≤◌, true, map, length, Some};
-ghost use Rattle.std.specs.List.{AllByRecursion as All};
+ghost use Rattle.std.specs.List.{AllByRecursion};
 ghost use Rattle.std.specs.Option.{option_map};
 ghost use Rattle.makes.specs.Bodies.{body_items};
 ghost use Rattle.makes.specs.Flats.{rule_of};
@@ -26,7 +26,7 @@ fn all_started(steps: &[Step], tick: usize) -> bool
 fn atoms_back(steps: &[Step], tick: usize, width: usize) -> Option<Body>
     requires few { length steps.now ≤ 6 }
     requires within { (tick + 1) * width ≤ 1024 }
-    requires there { All (λ s. s.slot < width) steps.now }
+    requires there { AllByRecursion (λ s. s.slot < width) steps.now }
     requires started { started_by tick steps.now ≡ true }
     ensures { option_map body_items result ≡ Some (map (atom_back width tick) steps.now) }
 {
@@ -41,8 +41,8 @@ fn atoms_back(steps: &[Step], tick: usize, width: usize) -> Option<Body>
 pub fn instance(pattern: &Pattern, tick: usize, width: usize) -> Option<RuleRow>
     requires within { (tick + 1) * width ≤ 1024 }
     requires head { pattern.now.head < width }
-    requires positives { All (λ s. s.slot < width) (body_items pattern.now.positives) }
-    requires negatives { All (λ s. s.slot < width) (body_items pattern.now.negatives) }
+    requires positives { AllByRecursion (λ s. s.slot < width) (body_items pattern.now.positives) }
+    requires negatives { AllByRecursion (λ s. s.slot < width) (body_items pattern.now.negatives) }
     ensures { option_map rule_of result ≡ instance_of width tick pattern.now }
 {
     let positives = pattern.positives.as_slice();

@@ -1,4 +1,6 @@
 // The makes of books.
+#![tactic(auto)]
+
 pub mod body;
 pub mod flat;
 mod instance;

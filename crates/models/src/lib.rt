@@ -1,6 +1,8 @@
 // Stable models of a checked book: what is due, safe and ruled out, and why nothing told is taken back.
 // Each function below computes nothing: its contract is a theorem about the definitions of this crate's specs/.
 // The generic ones hold for every stamp order that keeps the laws of `Order`.
+#![tactic(auto)]
+
 ghost use Rattle.models.specs.Examples.{ExamplesHold};
 ghost use Rattle.models.specs.Shortcuts.{ShortcutsAreWrong};
 ghost use Rattle.models.specs.Theorems.{EachHasOneModel, RuledOutLasts, OpenMayCome, NothingTakenBack, DueGivesSafe, SweepingEnds, EndIsModel};

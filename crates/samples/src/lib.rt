@@ -1,4 +1,6 @@
 // Worked cases: those that are proved of the definitions, and tests of the code.
+#![tactic(auto)]
+
 pub mod cases;
 #[cfg(test)]
 mod checks;

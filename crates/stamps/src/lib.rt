@@ -1,4 +1,6 @@
 // Stamp orders: what a rule's atoms are compared by.
+#![tactic(auto)]
+
 pub mod order;
 pub mod route;
 pub mod then;

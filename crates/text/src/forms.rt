@@ -7,11 +7,11 @@ use crate::bytes::{byte_at, pass, wrong};
 use crate::form::Form;
 use crate::kind::{Kind, kind_at};
 use crate::numbers::{MAX_NUMBER, number};
+use crate::phrases::{agreed, pass_word};
 use crate::reader::{Reader, Room, Stage};
 use crate::rule::rule_row;
 use crate::site::Site;
 use crate::stamp::Spelled;
-use crate::words::{agreed, pass_word};
 use books::fault::{Fault, ReadFault};
 use makes::rows::AtomRow;
 

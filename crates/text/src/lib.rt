@@ -1,4 +1,6 @@
 // The bracket text: reading a book from bytes, and the words, numbers and stamps of its canonical spelling.
+#![tactic(auto)]
+
 mod aisles;
 mod bytes;
 pub mod counts;
@@ -8,10 +10,10 @@ mod kind;
 mod lists;
 mod numbers;
 pub mod order;
+mod phrases;
 pub mod read;
 mod reader;
 mod rule;
 pub mod sheet;
 mod site;
 pub mod stamp;
-mod words;

@@ -2,7 +2,7 @@
 ghost use Rattle.std.specs.Prelude.{◌≡◌};
 ghost use Rattle.text.specs.Orders.{word_of, order_refused};
 
-use crate::words::agreed;
+use crate::phrases::agreed;
 
 #[derive(Clone, Copy)]
 pub enum Word {

@@ -70,7 +70,7 @@ fn put<S: Spelled>(
     atoms: &mut [AtomRow<S>],
     rules: &mut [Option<RuleRow>],
 )
-    requires { Roomy (record { atoms = length atoms.now; rules = length rules.old }) reader form }
+    requires { Roomy (record { atoms = length atoms.old; rules = length rules.old }) reader form }
     ensures atoms { atoms.new ≡ put_atom reader.atoms atoms.old form }
     ensures rules { rules.new ≡ put_rule reader.rules rules.old form }
 {

@@ -1,4 +1,6 @@
 // Tests of the bracket text, which are many: tables that are marked before a text is read, and what is asked of a refusal.
+#![tactic(auto)]
+
 #[cfg(test)]
 mod accepted;
 #[cfg(test)]

@@ -1,4 +1,6 @@
 // Writing a book in canonical spelling, and what the program that reads and writes books prints.
+#![tactic(auto)]
+
 pub mod canonical;
 mod gaps;
 mod lines;

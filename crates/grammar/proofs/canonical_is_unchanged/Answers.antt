@@ -5,7 +5,7 @@ use Rattle.grammar.specs.Notations.{ticks, routes, pairs}
 pub returns : goal.returns
 returns c =
     record {
-      of-ticks = (canonical_is_unchanged_lem ticks lawful_ticks, answer_is_its_own ticks lawful_ticks);
-      of-routes = (canonical_is_unchanged_lem routes lawful_routes, answer_is_its_own routes lawful_routes);
-      of-pairs = (canonical_is_unchanged_lem pairs lawful_pairs, answer_is_its_own pairs lawful_pairs);
+      of_ticks = (canonical_is_unchanged_lem ticks lawful_ticks, answer_is_its_own ticks lawful_ticks);
+      of_routes = (canonical_is_unchanged_lem routes lawful_routes, answer_is_its_own routes lawful_routes);
+      of_pairs = (canonical_is_unchanged_lem pairs lawful_pairs, answer_is_its_own pairs lawful_pairs);
     }

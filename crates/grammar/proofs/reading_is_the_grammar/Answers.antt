@@ -5,7 +5,7 @@ use Rattle.grammar.specs.Notations.{ticks, routes, pairs}
 pub returns : goal.returns
 returns c =
     record {
-      of-ticks = (reading_is_the_grammar_lem ticks lawful_ticks, degrees_nest ticks lawful_ticks);
-      of-routes = (reading_is_the_grammar_lem routes lawful_routes, degrees_nest routes lawful_routes);
-      of-pairs = (reading_is_the_grammar_lem pairs lawful_pairs, degrees_nest pairs lawful_pairs);
+      of_ticks = (reading_is_the_grammar_lem ticks lawful_ticks, degrees_nest ticks lawful_ticks);
+      of_routes = (reading_is_the_grammar_lem routes lawful_routes, degrees_nest routes lawful_routes);
+      of_pairs = (reading_is_the_grammar_lem pairs lawful_pairs, degrees_nest pairs lawful_pairs);
     }

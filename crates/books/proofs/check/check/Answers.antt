@@ -6,19 +6,19 @@ use Rattle.books.proofs.First.{passes_more, refuses_here, within}
 use Rattle.books.proofs.Verdicts.{judged_at}
 use Rattle.books.proofs.check.check.Goals as goal
 
-pub returns-in-err-check-rule : goal.returns-in-err-check-rule
-returns-in-err-check-rule g c =
+pub returns-in_err-check_rule : goal.returns-in_err-check_rule
+returns-in_err-check_rule g c =
     let m = g.B.Book.meaning c.args.book.now in
     let fault_at = rule_fault g.B.Stamp.Order.is_before g.B.Stamp.Order.is_not_after m in
-    let p = err_from_is_err_and c.from-residual.result c.from-residual.ensures.1 in
+    let p = err_from_is_err_and c.from_residual.result c.from_residual.ensures.1 in
     let atoms : length m.atoms ≤ 1024 = omega arith in
     let rules : length m.rules ≤ 1024 = omega arith in
-    let answer : c.from-residual.result ≡ unless (book_fault g.B.Stamp.Order.is_before g.B.Stamp.Order.is_not_after m) =
+    let answer : c.from_residual.result ≡ unless (book_fault g.B.Stamp.Order.is_before g.B.Stamp.Order.is_not_after m) =
     p.1 ∙ ap Err p.2
-    ∙ refuses_here fault_at c.loop-rule.rule _ _ c.loop-rule.invariant c.in-err-check-rule.ensures c.loop-rule-test.true
-    ∙ ap (λ n. unless (first_below n fault_at)) c.rule-count-rule-end.ensures
+    ∙ refuses_here fault_at c.loop-rule.rule _ _ c.loop-rule.invariant c.in_err-check_rule.ensures c.loop-rule-test.true
+    ∙ ap (λ n. unless (first_below n fault_at)) c.rule_count-rule-end.ensures
     ∙ ap unless (sym (within (length m.atoms) (length m.rules) (Some TooLarge) (first_below (length m.rules) fault_at) atoms rules)) in
-    record { answer = answer; judged = judged_at g.B.Stamp.Order.is_before g.B.Stamp.Order.is_not_after m c.from-residual.result answer }
+    record { answer = answer; judged = judged_at g.B.Stamp.Order.is_before g.B.Stamp.Order.is_not_after m c.from_residual.result answer }
 
 pub returns : goal.returns
 returns g c =
@@ -34,4 +34,4 @@ returns g c =
 pub loop-rule-preserved : goal.loop-rule-preserved
 loop-rule-preserved g c =
     let fault_at = rule_fault g.B.Stamp.Order.is_before g.B.Stamp.Order.is_not_after (g.B.Book.meaning c.args.book.now) in
-    passes_more fault_at c.loop-rule.rule c.loop-rule.invariant c.in-ok-check-rule.ensures
+    passes_more fault_at c.loop-rule.rule c.loop-rule.invariant c.in_ok-check_rule.ensures

@@ -5,4 +5,4 @@ use Rattle.makes.proofs.Lookups.{slice_get-map}
 use Rattle.makes.proofs.flat.atom_row.Goals as goal
 
 pub returns : goal.returns
-returns g c = ap (option_map atom_of) c.row-at.ensures ∙ sym (slice_get-map atom_of c.args.atoms.now c.args.atom)
+returns g c = ap (option_map atom_of) c.row_at.ensures ∙ sym (slice_get-map atom_of c.args.atoms.now c.args.atom)

@@ -1,5 +1,5 @@
 use Rattle.std.proofs.Common.{◌≤◌, List, take, sym, subst, take_all}
-use Rattle.std.specs.List.{AllByRecursion as All}
+use Rattle.std.specs.List.{AllByRecursion}
 use Rattle.std.proofs.ByRecursion.{All-more}
 use Rattle.makes.specs.declared.patterns.Step.{Step}
 use Rattle.makes.proofs.Instances.{no_step, started_decides, not_started}
@@ -14,5 +14,5 @@ loop-step-preserved c = All-more (λ (s : Step). s.back ≤ c.args.tick) c.args.
 pub returns : goal.returns
 returns c =
     let steps = c.args.steps.now in
-    let all = subst (All (λ (s : Step). s.back ≤ c.args.tick)) (take_all c.loop-step.step-index steps c.loop-step-test.false) c.loop-step.invariant in
+    let all = subst (AllByRecursion (λ (s : Step). s.back ≤ c.args.tick)) (take_all c.loop-step.step-index steps c.loop-step-test.false) c.loop-step.invariant in
     sym ((started_decides c.args.tick steps).1 all)

@@ -8,11 +8,11 @@ use Rattle.makes.specs.declared.patterns.Step.{Step}
 use Rattle.makes.proofs.Instances.{no_step, all_back, atom_below}
 use Rattle.makes.proofs.instance.atoms_back.Goals as goal
 
-pub overflow-sub-atoms : goal.overflow-sub-atoms
-overflow-sub-atoms c = all_back c.args.tick c.args.steps.now c.requires.started c.loop-i.i c.loop-i-test.true
+pub overflow_sub-atoms : goal.overflow_sub-atoms
+overflow_sub-atoms c = all_back c.args.tick c.args.steps.now c.requires.started c.loop-i.i c.loop-i-test.true
 
-pub overflow-add-atoms : goal.overflow-add-atoms
-overflow-add-atoms c =
+pub overflow_add-atoms : goal.overflow_add-atoms
+overflow_add-atoms c =
     let step : Step = get_or c.args.steps.now c.loop-i.i no_step in
     let slot = All-get_or (λ (s : Step). s.slot < c.args.width) c.args.steps.now c.loop-i.i no_step c.loop-i-test.true c.requires.there in
     omega (arith, atom_below c.args.tick step.back c.args.width step.slot slot c.requires.within)

@@ -13,6 +13,6 @@ returns-then-aisles-bit-ne1 c =
 pub returns : goal.returns
 returns c =
     record {
-      wrote = wrote_as _ _ _ (next_aisle c.args.aisles c.args.aisle _ c.requires.1 refl c.if-aisles-bit-ne1.false c.if-aisles-bit-eq0.false) refl refl (wrote_then c.put-at.ensures c.put-number-2.ensures.wrote);
-      short = omega (arith, c.put-at.ensures.place, c.put-number-2.ensures.short);
+      wrote = wrote_as _ _ _ (next_aisle c.args.aisles c.args.aisle _ c.requires.1 refl c.if-aisles-bit-ne1.false c.if-aisles-bit-eq0.false) refl refl (wrote_then c.put-at.ensures c.put_number-2.ensures.wrote);
+      short = omega (arith, c.put-at.ensures.place, c.put_number-2.ensures.short);
     }

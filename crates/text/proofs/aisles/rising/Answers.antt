@@ -11,17 +11,17 @@ loop-turn-init c = sym (turns_none (λ r. and_then r (one_aisle c.args.text.now)
 
 pub loop-turn-preserved : goal.loop-turn-preserved
 loop-turn-preserved c =
-    c.in-ok-so-far.ensures ∙ tries_more (one_aisle c.args.text.now) (no_aisle (c.args.more, c.args.next)) c.loop-turn.-turn _ c.loop-turn.invariant
+    c.in_ok-so_far.ensures ∙ tries_more (one_aisle c.args.text.now) (no_aisle (c.args.more, c.args.next)) c.loop-turn._turn _ c.loop-turn.invariant
 
-pub returns-in-err-so-far : goal.returns-in-err-so-far
+pub returns-in_err-so_far : goal.returns-in_err-so_far
 unfolding aisles_at
-returns-in-err-so-far c =
-    let p = err_from_is_err_and c.from-residual.result c.from-residual.ensures.1 in
+returns-in_err-so_far c =
+    let p = err_from_is_err_and c.from_residual.result c.from_residual.ensures.1 in
     rw (p.1, p.2)
-    (tries_refused (one_aisle c.args.text.now) (no_aisle (c.args.more, c.args.next)) c.loop-turn.-turn 65 _ _ c.loop-turn.invariant c.in-err-so-far.ensures c.loop-turn-test.true)
+    (tries_refused (one_aisle c.args.text.now) (no_aisle (c.args.more, c.args.next)) c.loop-turn._turn 65 _ _ c.loop-turn.invariant c.in_err-so_far.ensures c.loop-turn-test.true)
 
 pub returns : goal.returns
 unfolding aisles_at
 returns c =
-    let done : c.loop-turn.-turn ≡ 65 = omega arith in
+    let done : c.loop-turn._turn ≡ 65 = omega arith in
     c.loop-turn.invariant ∙ ap (tries (one_aisle c.args.text.now) (no_aisle (c.args.more, c.args.next))) done

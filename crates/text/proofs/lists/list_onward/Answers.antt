@@ -10,6 +10,6 @@ pub returns-in-Some-eq41 : goal.returns-in-Some-eq41
 unfolding onward_at
 returns-in-Some-eq41 c = search rules
 
-pub returns-in-default : goal.returns-in-default
+pub returns-in_default : goal.returns-in_default
 unfolding onward_at
-returns-in-default c = search rules
+returns-in_default c = search rules

@@ -14,6 +14,6 @@ pub returns : goal.returns
 unfolding number_at
 returns c = search rules
 
-pub returns-then-is-some : goal.returns-then-is-some
+pub returns-then-is_some : goal.returns-then-is_some
 unfolding number_at
-returns-then-is-some c = search rules
+returns-then-is_some c = search rules

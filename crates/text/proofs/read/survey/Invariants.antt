@@ -5,4 +5,4 @@ use Rattle.text.proofs.read.survey.Given as goal
 
 -- so many turns have passed
 abbrev pub invariant-loop-turn : goal.invariant-loop-turn
-invariant-loop-turn g l = Ok l.reader ≡ tries (one_move g.S.Spelled.stamp_at g.S.Spelled.spelling l.text l.room) start_reader l.-turn
+invariant-loop-turn g l = Ok l.reader ≡ tries (one_move g.S.Spelled.stamp_at g.S.Spelled.spelling l.text l.room) start_reader l._turn

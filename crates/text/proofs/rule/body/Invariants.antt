@@ -7,4 +7,4 @@ use Rattle.text.proofs.rule.body.Given as goal
 abbrev pub invariant-loop-turn : goal.invariant-loop-turn
 invariant-loop-turn l =
     (length l.atoms ≡ 6) × (l.count ≤ 6)
-    × (◌≡◌ (Ok (record { atoms = take l.count l.atoms; more = l.more; next = l.next })) (tries (one_literal l.text l.site l.before) (no_atom (l.initial.more, l.initial.next)) l.-turn))
+    × (◌≡◌ (Ok (record { atoms = take l.count l.atoms; more = l.more; next = l.next })) (tries (one_literal l.text l.site l.before) (no_atom (l.initial.more, l.initial.next)) l._turn))

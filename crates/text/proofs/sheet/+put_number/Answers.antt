@@ -17,5 +17,5 @@ returns t c =
     let n = c.args.number in
     let fits : n < 2 ^ 64 = omega arith in
     let e = decimal_step n c.if-number-lt10.false fits in
-    let w = subst (λ bytes. Wrote c.args.sheet.now c.args.at bytes c.put-2.new.sheet c.put-2.result) (sym e) (wrote_then c.put-number-next.ensures.wrote c.put-2.ensures) in
+    let w = subst (λ bytes. Wrote c.args.sheet.now c.args.at bytes c.put-2.new.sheet c.put-2.result) (sym e) (wrote_then c.put_number-next.ensures.wrote c.put-2.ensures) in
     record { wrote = w; short = omega (arith, decimal_short n fits, w.place) }

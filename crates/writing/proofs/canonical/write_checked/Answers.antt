@@ -6,19 +6,19 @@ use Rattle.writing.specs.Writes.{book_gap, write_answer}
 use Rattle.writing.proofs.Replying.{replied_refused, replied_as, replied_written}
 use Rattle.writing.proofs.canonical.write_checked.Goals as goal
 
-pub returns-in-err-check : goal.returns-in-err-check
-returns-in-err-check g c =
+pub returns-in_err-check : goal.returns-in_err-check
+returns-in_err-check g c =
     let m = g.B.Book.meaning c.args.book.now in
-    let text = book_text g.Stamp.Spelled.spelling g.Stamp.Spelled.spelt m in
-    let p = err_from_is_err_and c.from-residual.result c.from-residual.ensures.1 in
-    replied_refused _ _ c.args.sheet.now c.from-residual.result
-    (ap (λ r. and_then r (λ _. and_then (write_answer (book_gap m) (length text) (length c.args.sheet.now)) (λ _. Ok text))) c.in-err-check.ensures.answer)
+    let text = book_text g.B.Stamp.Spelled.spelling g.B.Stamp.Spelled.spelt m in
+    let p = err_from_is_err_and c.from_residual.result c.from_residual.ensures.1 in
+    replied_refused _ _ c.args.sheet.now c.from_residual.result
+    (ap (λ r. and_then r (λ _. and_then (write_answer (book_gap m) (length text) (length c.args.sheet.now)) (λ _. Ok text))) c.in_err-check.ensures.answer)
     (p.1 ∙ ap Err p.2)
 
 pub returns : goal.returns
 returns g c =
     let m = g.B.Book.meaning c.args.book.now in
-    let text = book_text g.Stamp.Spelled.spelling g.Stamp.Spelled.spelt m in
+    let text = book_text g.B.Stamp.Spelled.spelling g.B.Stamp.Spelled.spelt m in
     replied_as _ _ _ _ _
-    (ap (λ r. and_then r (λ _. and_then (write_answer (book_gap m) (length text) (length c.args.sheet.now)) (λ _. Ok text))) c.in-ok-check.ensures.answer)
+    (ap (λ r. and_then r (λ _. and_then (write_answer (book_gap m) (length text) (length c.args.sheet.now)) (λ _. Ok text))) c.in_ok-check.ensures.answer)
     (replied_written text c.args.sheet.now _ (book_gap m) _ c.write.ensures.answer c.write.ensures.sheet)

@@ -13,8 +13,8 @@ pub loop-i-preserved : goal.loop-i-preserved
 loop-i-preserved g c =
     let f = item_in c.args.positive (rule_at (g.B.Book.meaning c.args.book.now) c.args.rule) in
     let i = c.loop-i.i in (
-      wrote_more f i c.loop-i.invariant.0 (wrote_as (f i) _ _ (sym (ap (item i) c.literal-in.ensures)) refl refl c.put-item-next.ensures.wrote),
-      omega (arith, c.loop-i.invariant.1, c.put-item-next.ensures.short),
+      wrote_more f i c.loop-i.invariant.0 (wrote_as (f i) _ _ (sym (ap (item i) c.literal_in.ensures)) refl refl c.put_item-next.ensures.wrote),
+      omega (arith, c.loop-i.invariant.1, c.put_item-next.ensures.short),
     )
 
 pub returns : goal.returns

@@ -5,6 +5,6 @@ use Rattle.writing.proofs.lines.put_void.Goals as goal
 pub returns : goal.returns
 returns c =
     record {
-      wrote = wrote_then (wrote_then c.put-at.ensures c.put-number-at.ensures.wrote) c.put.ensures;
-      short = omega (arith, c.put-at.ensures.place, c.put-number-at.ensures.short, c.put.ensures.place);
+      wrote = wrote_then (wrote_then c.put-at.ensures c.put_number-at.ensures.wrote) c.put.ensures;
+      short = omega (arith, c.put-at.ensures.place, c.put_number-at.ensures.short, c.put.ensures.place);
     }

@@ -4,19 +4,19 @@ use Rattle.text.specs.declared.order.Word.TheVariants as word
 use Rattle.writing.proofs.Replying.{replied_refused, replied_as, program_long, program_is}
 use Rattle.writing.proofs.reply.canonical_of.Goals as goal
 
-pub returns-then-text-gt-MAX-INPUT : goal.returns-then-text-gt-MAX-INPUT
-returns-then-text-gt-MAX-INPUT c = replied_refused _ _ c.args.sheet.now _ (program_long c.args.text.now _ _ _ _ _ c.if-text-gt-MAX-INPUT.true) refl
+pub returns-then-text-gt-MAX_INPUT : goal.returns-then-text-gt-MAX_INPUT
+returns-then-text-gt-MAX_INPUT c = replied_refused _ _ c.args.sheet.now _ (program_long c.args.text.now _ _ _ _ _ c.if-text-gt-MAX_INPUT.true) refl
 
 pub returns-in-Tick : goal.returns-in-Tick
-returns-in-Tick c = replied_as _ _ _ _ _ (program_is c.args.text.now _ _ _ _ _ (Some word.Tick) c.if-text-gt-MAX-INPUT.false (ap Some (sym c.in-Tick.is) ∙ c.in-Some.ensures)) c.canonical.ensures
+returns-in-Tick c = replied_as _ _ _ _ _ (program_is c.args.text.now _ _ _ _ _ (Some word.Tick) c.if-text-gt-MAX_INPUT.false (ap Some (sym c.in-Tick.is) ∙ c.in-Some.ensures)) c.canonical.ensures
 
 pub returns-in-Route : goal.returns-in-Route
-returns-in-Route c = replied_as _ _ _ _ _ (program_is c.args.text.now _ _ _ _ _ (Some word.Route) c.if-text-gt-MAX-INPUT.false (ap Some (sym c.in-Route.is) ∙ c.in-Some.ensures)) c.canonical-in-Route.ensures
+returns-in-Route c = replied_as _ _ _ _ _ (program_is c.args.text.now _ _ _ _ _ (Some word.Route) c.if-text-gt-MAX_INPUT.false (ap Some (sym c.in-Route.is) ∙ c.in-Some.ensures)) c.canonical-in-Route.ensures
 
 pub returns-in-Then : goal.returns-in-Then
-returns-in-Then c = replied_as _ _ _ _ _ (program_is c.args.text.now _ _ _ _ _ (Some word.Then) c.if-text-gt-MAX-INPUT.false (ap Some (sym c.in-Then.is) ∙ c.in-Some.ensures)) c.canonical-in-Then.ensures
+returns-in-Then c = replied_as _ _ _ _ _ (program_is c.args.text.now _ _ _ _ _ (Some word.Then) c.if-text-gt-MAX_INPUT.false (ap Some (sym c.in-Then.is) ∙ c.in-Some.ensures)) c.canonical-in-Then.ensures
 
-pub returns-in-default : goal.returns-in-default
-returns-in-default c =
-    let r = ap wrong_at c.order-refused.ensures in
-    replied_refused _ _ c.args.sheet.now _ (program_is c.args.text.now _ _ _ _ _ None c.if-text-gt-MAX-INPUT.false c.in-default.ensures) r
+pub returns-in_default : goal.returns-in_default
+returns-in_default c =
+    let r = ap wrong_at c.order_refused.ensures in
+    replied_refused _ _ c.args.sheet.now _ (program_is c.args.text.now _ _ _ _ _ None c.if-text-gt-MAX_INPUT.false c.in_default.ensures) r

@@ -6,6 +6,6 @@ use Rattle.writing.proofs.reply.put_values.Goals as goal
 pub returns-in-RuleLiteral : goal.returns-in-RuleLiteral
 returns-in-RuleLiteral c =
     record {
-      wrote = wrote_as _ _ _ (ap values_text c.in-RuleLiteral.is) refl refl (wrote_then (wrote_then c.put-number-at.ensures.wrote c.put-at.ensures) c.put-number-in-RuleLiteral.ensures.wrote);
-      short = omega (arith, c.put-number-at.ensures.short, c.put-at.ensures.place, c.put-number-in-RuleLiteral.ensures.short);
+      wrote = wrote_as _ _ _ (ap values_text c.in-RuleLiteral.is) refl refl (wrote_then (wrote_then c.put_number-at.ensures.wrote c.put-at.ensures) c.put_number-in-RuleLiteral.ensures.wrote);
+      short = omega (arith, c.put_number-at.ensures.short, c.put-at.ensures.place, c.put_number-in-RuleLiteral.ensures.short);
     }

@@ -5,4 +5,4 @@ pub returns-in-Ok : goal.returns-in-Ok
 returns-in-Ok c = wrote_found _ _ _ _ c.in-Ok.ensures
 
 pub returns-in-Err : goal.returns-in-Err
-returns-in-Err c = wrote_refused _ _ _ _ _ _ _ c.in-Err.ensures c.refusal.ensures c.put-refusal.ensures
+returns-in-Err c = wrote_refused _ _ _ _ _ _ _ c.in-Err.ensures c.refusal.ensures c.put_refusal.ensures

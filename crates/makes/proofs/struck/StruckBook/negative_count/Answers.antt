@@ -10,4 +10,4 @@ returns-then-has g c = sym (ap (option_map (λ (r : Rule). length r.negatives)) 
 
 pub returns-else-has : goal.returns-else-has
 returns-else-has g c =
-    c.negative-count.ensures ∙ sym (ap (option_map (λ (r : Rule). length r.negatives)) (struck_kept (has_number c.args.self.now.words) (g.B.Book.meaning c.args.self.now.below) c.args.rule c.if-has.ensures))
+    c.negative_count.ensures ∙ sym (ap (option_map (λ (r : Rule). length r.negatives)) (struck_kept (has_number c.args.self.now.words) (g.B.Book.meaning c.args.self.now.below) c.args.rule c.if-has.ensures))

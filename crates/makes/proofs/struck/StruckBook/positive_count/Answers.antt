@@ -10,4 +10,4 @@ returns-then-has g c = sym (ap (option_map (λ (r : Rule). length r.positives)) 
 
 pub returns-else-has : goal.returns-else-has
 returns-else-has g c =
-    c.positive-count.ensures ∙ sym (ap (option_map (λ (r : Rule). length r.positives)) (struck_kept (has_number c.args.self.now.words) (g.B.Book.meaning c.args.self.now.below) c.args.rule c.if-has.ensures))
+    c.positive_count.ensures ∙ sym (ap (option_map (λ (r : Rule). length r.positives)) (struck_kept (has_number c.args.self.now.words) (g.B.Book.meaning c.args.self.now.below) c.args.rule c.if-has.ensures))

@@ -22,6 +22,6 @@ pub returns-in-Atoms-Some-Rule : goal.returns-in-Atoms-Some-Rule
 unfolding form_at
 returns-in-Atoms-Some-Rule g c = search rules
 
-pub returns-in-default : goal.returns-in-default
+pub returns-in_default : goal.returns-in_default
 unfolding form_at
-returns-in-default g c = search rules
+returns-in_default g c = search rules

@@ -5,6 +5,6 @@ use Rattle.text.proofs.stamp.RouteSpelled.spell.Goals as goal
 pub returns : goal.returns
 returns c =
     record {
-      wrote = wrote_then (wrote_then c.put-at.ensures c.put-aisles-at.ensures.wrote) c.put.ensures;
-      short = omega (arith, c.put-at.ensures.place, c.put-aisles-at.ensures.short, c.put.ensures.place);
+      wrote = wrote_then (wrote_then c.put-at.ensures c.put_aisles-at.ensures.wrote) c.put.ensures;
+      short = omega (arith, c.put-at.ensures.place, c.put_aisles-at.ensures.short, c.put.ensures.place);
     }

@@ -5,6 +5,6 @@ use Rattle.text.proofs.stamp.ThenTickTickSpelled.spell.Goals as goal
 pub returns : goal.returns
 returns c =
     record {
-      wrote = wrote_then (wrote_then (wrote_then (wrote_then c.put-at.ensures c.put-number-at.ensures.wrote) c.put-at-2.ensures) c.put-number-at-2.ensures.wrote) c.put.ensures;
-      short = omega (arith, c.put-at.ensures.place, c.put-number-at.ensures.short, c.put-at-2.ensures.place, c.put-number-at-2.ensures.short, c.put.ensures.place);
+      wrote = wrote_then (wrote_then (wrote_then (wrote_then c.put-at.ensures c.put_number-at.ensures.wrote) c.put-at-2.ensures) c.put_number-at-2.ensures.wrote) c.put.ensures;
+      short = omega (arith, c.put-at.ensures.place, c.put_number-at.ensures.short, c.put-at-2.ensures.place, c.put_number-at-2.ensures.short, c.put.ensures.place);
     }

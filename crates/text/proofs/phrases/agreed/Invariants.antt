@@ -1,6 +1,6 @@
 use Rattle.std.proofs.Common.{◌≡◌, drop}
 use Rattle.text.specs.Words.{agrees_to}
-use Rattle.text.proofs.words.agreed.Given as goal
+use Rattle.text.proofs.phrases.agreed.Given as goal
 
 -- what is left of the word decides
 abbrev pub invariant-loop-byte : goal.invariant-loop-byte

@@ -3,17 +3,17 @@ use Rattle.std.proofs.lemmas.Bool.{ne_eqb}
 use Rattle.std.proofs.lemmas.List.{at_drop_all}
 use Rattle.text.specs.Words.{agrees_to, is_byte}
 use Rattle.text.proofs.Worded.{agrees_more, agrees_no_more}
-use Rattle.text.proofs.words.agreed.Goals as goal
+use Rattle.text.proofs.phrases.agreed.Goals as goal
 
-pub returns-in-default : goal.returns-in-default
-returns-in-default c =
+pub returns-in_default : goal.returns-in_default
+returns-in_default c =
     let l = c.loop-byte in
     agrees_no_more c.args.word.now c.args.text.now l.next l.byte-index c.loop-byte-test.true (ap (is_byte (get_or c.args.word.now l.byte-index 0)) (sym c.in-Some.ensures.value) ∙ ne_eqb c.in-Some.found (get_or c.args.word.now l.byte-index 0) c.if-found-byte.false) ∙ l.invariant
 
-pub returns-in-default·2 : goal.returns-in-default·2
-returns-in-default·2 c =
+pub returns-in_default-2 : goal.returns-in_default-2
+returns-in_default-2 c =
     let l = c.loop-byte in
-    agrees_no_more c.args.word.now c.args.text.now l.next l.byte-index c.loop-byte-test.true (ap (is_byte (get_or c.args.word.now l.byte-index 0)) (sym c.in-default.ensures.value)) ∙ l.invariant
+    agrees_no_more c.args.word.now c.args.text.now l.next l.byte-index c.loop-byte-test.true (ap (is_byte (get_or c.args.word.now l.byte-index 0)) (sym c.in_default.ensures.value)) ∙ l.invariant
 
 pub loop-byte-preserved : goal.loop-byte-preserved
 loop-byte-preserved c =

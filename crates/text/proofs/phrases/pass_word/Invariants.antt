@@ -1,6 +1,6 @@
 use Rattle.std.proofs.Common.{◌≡◌, drop}
 use Rattle.text.specs.Words.{pass_word}
-use Rattle.text.proofs.words.pass_word.Given as goal
+use Rattle.text.proofs.phrases.pass_word.Given as goal
 
 -- what is left of the word decides
 abbrev pub invariant-loop-byte : goal.invariant-loop-byte
