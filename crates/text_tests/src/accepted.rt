@@ -4,7 +4,6 @@ use makes::flat::Flat;
 use makes::rows::AtomRow;
 use stamps::route::Route;
 use stamps::tick::Tick;
-use std::process::Abort;
 use std::test::Fail;
 use text::counts::Counts;
 use text::read::read;
@@ -49,17 +48,13 @@ fn an_accepted_route(rt: HostRuntime) -> Result<(), Fail> {
 
 // A text of so many atoms and rules is read; with a form in place of its end form, which is its last six bytes,
 // it is refused there, and marked tables stay.
-fn takes_no_more(
-    rt: &impl Abort,
-    text: &[u8],
-    atoms: usize,
-    rules: usize,
-    form: &[u8],
-) -> Result<(), Fail> {
+fn takes_no_more(text: &[u8], atoms: usize, rules: usize, form: &[u8]) -> Result<(), Fail> {
     let mut rows = [mark_row::<Tick>(); 1100];
     let mut numbers = [mark_rule(); 1100];
     let counts = read::<Tick>(text, &mut rows, &mut numbers)?;
-    assert!(rt; counts.atoms == atoms && counts.rules == rules);
+    if counts.atoms != atoms || counts.rules != rules {
+        return Err(Fail::new("the counts are not those of the text"));
+    }
     if text.len() < 6 {
         return Err(Fail::new("the text has no end form"));
     }
@@ -69,17 +64,14 @@ fn takes_no_more(
     if length > longer.len() {
         return Err(Fail::new("the text is too long"));
     }
-    assert!(rt;
-        refused_at(
-            refusal(
-                &longer[0..length],
-                &mut [mark_row::<Tick>(); 1100],
-                &mut [mark_rule(); 1100],
-            ),
-            3,
-            end,
-        )
+    let refusal = refusal(
+        &longer[0..length],
+        &mut [mark_row::<Tick>(); 1100],
+        &mut [mark_rule(); 1100],
     );
+    if !refused_at(refusal, 3, end) {
+        return Err(Fail::new("the form is to be refused with 3 at its bracket"));
+    }
     Ok(())
 }
 
@@ -96,7 +88,7 @@ fn the_last_atom_form_and_one_more(rt: HostRuntime) -> Result<(), Fail> {
         return Err(Fail::new("the text is too long"));
     }
     // Its number, which is not the next one, is not looked at.
-    takes_no_more(&rt, &sheet[0..length], 1024, 0, b"(atom 9 in 1)\n(end)\n")
+    takes_no_more(&sheet[0..length], 1024, 0, b"(atom 9 in 1)\n(end)\n")
 }
 
 #[test]
@@ -112,12 +104,6 @@ fn the_last_rule_form_and_one_more(rt: HostRuntime) -> Result<(), Fail> {
     if length > sheet.len() {
         return Err(Fail::new("the text is too long"));
     }
-    takes_no_more(
-        &rt,
-        &sheet[0..length],
-        1,
-        1024,
-        b"(rule 9 0 () ())\n(end)\n",
-    )?;
-    takes_no_more(&rt, &sheet[0..length], 1, 1024, b"(void 9)\n(end)\n")
+    takes_no_more(&sheet[0..length], 1, 1024, b"(rule 9 0 () ())\n(end)\n")?;
+    takes_no_more(&sheet[0..length], 1, 1024, b"(void 9)\n(end)\n")
 }

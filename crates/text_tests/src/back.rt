@@ -10,7 +10,6 @@ use makes::rows::{AtomRow, RuleRow};
 use makes::struck::Struck;
 use stamps::then::Then;
 use stamps::tick::Tick;
-use std::process::Abort;
 use std::test::Fail;
 use text::read::read;
 use writing::write::write;
@@ -42,7 +41,7 @@ const STRUCK: &[u8] =
     b"(order then)\n(atom 0 in (0 0))\n(atom 1 out (0 1))\n(atom 2 in (1 0))\n(atom 3 out (1 1))\n(void 0)\n(void 1)\n(end)\n";
 
 // The text is read, and the book that was read is written as the same text.
-fn comes_back(rt: &impl Abort, text: &[u8]) -> Result<(), Fail> {
+fn comes_back(text: &[u8]) -> Result<(), Fail> {
     let row = AtomRow {
         stamp: Then {
             first: Tick(0),
@@ -53,14 +52,18 @@ fn comes_back(rt: &impl Abort, text: &[u8]) -> Result<(), Fail> {
     let mut atoms = [row; 8];
     let mut rules = [None; 8];
     let counts = read::<Then<Tick, Tick>>(text, &mut atoms, &mut rules)?;
-    assert!(rt; counts.atoms == 4 && counts.rules == 2);
+    if counts.atoms != 4 || counts.rules != 2 {
+        return Err(Fail::new("the text is of four atoms and two rules"));
+    }
     let book = Flat {
         atoms: &atoms[0..4],
         rules: &rules[0..2],
     };
     let mut sheet = [b'#'; 256];
     let length = write(&book, &mut sheet)?;
-    assert!(rt; begins_with(&sheet, text, length));
+    if !begins_with(&sheet, text, length) {
+        return Err(Fail::new("the text is to come back"));
+    }
     Ok(())
 }
 
@@ -75,7 +78,7 @@ fn a_repeating_book_is_written_and_read_back(rt: HostRuntime) -> Result<(), Fail
     let mut sheet = [b'#'; 256];
     let length = write(&book, &mut sheet)?;
     assert!(rt; begins_with(&sheet, REPEATED, length));
-    comes_back(&rt, REPEATED)
+    comes_back(REPEATED)
 }
 
 #[test]
@@ -91,7 +94,7 @@ fn a_struck_book_is_written_and_read_back(rt: HostRuntime) -> Result<(), Fail> {
     let mut sheet = [b'#'; 256];
     let length = write(&book, &mut sheet)?;
     assert!(rt; begins_with(&sheet, STRUCK, length));
-    comes_back(&rt, STRUCK)
+    comes_back(STRUCK)
 }
 
 #[test]
