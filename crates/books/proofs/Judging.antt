@@ -1,11 +1,11 @@
 -- The check's verdict against what a book is to be.
-use Rattle.std.proofs.Common.{◌≡◌, ℕ, zero, suc, ◌+◌, ◌*◌, ◌<◌, ◌≤◌, Bool, true, false, cond, ◌||◌, T, ltb, ◌⊎◌, length, Some, None, Option, sym, refl, ap, ◌∙◌, subst, inl, inr, arith, length-append}
-use Rattle.std.specs.List.{slice_get, AllByRecursion}
-use Rattle.std.specs.Option.{option_map, option_flatten}
+use Rattle.std.proofs.Common.{◌≡◌, ℕ, ◌+◌, ◌*◌, ◌<◌, ◌≤◌, Bool, true, false, cond, ◌||◌, ltb, ◌⊎◌, length, Some, None, Option, sym, refl, ap, ◌∙◌, subst, inl, inr, arith, length-append}
+use Rattle.std.specs.List.{slice_get}
+use Rattle.std.specs.Option.{option_map}
 use Rattle.std.proofs.lemmas.Bool.{cases_lt, ltb-false, ltb-true, or_parts, or_cases}
-use Rattle.books.specs.Meaning.{Rule, Atom, Meaning, bind_some, rule_at, literals, literal_of, stamp_of, reading_of}
-use Rattle.books.specs.Check.{first_below, literal_fault, body_fault, head_fault, rule_fault, book_fault}
-use Rattle.books.specs.Judged.{OfRule, OfLiteral, Fails, Breaks, rule_of, step_of, of_counts}
+use Rattle.books.specs.Meaning.{Rule, Atom, Meaning, bind_some, rule_at, literals, stamp_of, reading_of}
+use Rattle.books.specs.Check.{first_below, literal_fault, body_fault, head_fault, rule_fault}
+use Rattle.books.specs.Judged.{Fails, Breaks, rule_of, step_of, of_counts}
 use Rattle.books.specs.declared.fault.CheckFault.{CheckFault}
 use Rattle.books.specs.declared.fault.CheckFault.TheVariants.{TooLarge, BodyTooLong, HeadMissing, HeadIsReading, LiteralMissing, PositiveOutOfOrder, NegativeOutOfOrder, SlotMissing, RuleMissing, SheetTooShort}
 use Rattle.books.proofs.First.{first_at, first_none}

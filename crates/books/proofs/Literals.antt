@@ -1,9 +1,9 @@
 -- A rule's literals against its two lists.
-use Rattle.std.proofs.Common.{◌≡◌, ℕ, ◌+◌, ◌-◌, ◌<◌, ◌≤◌, length, Some, None, Option, sym, refl, ap, ◌∙◌, arith}
+use Rattle.std.proofs.Common.{◌≡◌, ℕ, ◌+◌, ◌-◌, ◌<◌, ◌≤◌, length, Some, None, Option, refl, ap, ◌∙◌, arith}
 use Rattle.std.specs.List.{slice_get}
 use Rattle.std.proofs.iter.runs.Lists.{nth_left, nth_right}
 use Rattle.std.specs.Option.{option_map}
-use Rattle.books.specs.Meaning.{Rule, Meaning, bind_some, literals}
+use Rattle.books.specs.Meaning.{Rule, bind_some, literals}
 
 pub literal_positive : (o : Option Rule) (p i : ℕ) → option_map (λ (r : Rule). length r.positives) o ≡ Some p → i < p → bind_some (λ (r : Rule). slice_get (literals r) i) o ≡ bind_some (λ (r : Rule). slice_get r.positives i) o
 literal_positive None p i e l = refl

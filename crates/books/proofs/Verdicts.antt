@@ -1,16 +1,15 @@
 -- The check's verdict on a whole book: it accepts exactly the sound ones, and a refusal names the first fault.
-use Rattle.std.proofs.Common.{◌≡◌, ℕ, zero, suc, ◌+◌, ◌-◌, ◌*◌, ◌<◌, ◌≤◌, Bool, true, false, cond, ◌||◌, T, ltb, ◌⊎◌, length, Some, None, Ok, Err, Option, Result, sym, refl, ap, ◌∙◌, subst, inl, inr, arith}
-use Rattle.std.specs.List.{slice_get, AllByRecursion}
+use Rattle.std.proofs.Common.{◌≡◌, ℕ, suc, ◌+◌, ◌-◌, ◌*◌, ◌<◌, ◌≤◌, Bool, true, false, cond, ◌||◌, T, ltb, ◌⊎◌, length, Some, None, Option, Result, sym, refl, ap, ◌∙◌, subst, inl, inr, arith}
+use Rattle.std.specs.List.{slice_get}
 use Rattle.std.specs.Option.{option_map, option_flatten}
 use Rattle.std.proofs.iter.runs.Lists.{nth_left, nth_right}
 use Rattle.std.proofs.lemmas.Bool.{cases_lt, ltb-false, ltb-true, or_parts, or_cases}
-use Rattle.books.specs.Meaning.{Rule, Atom, Meaning, bind_some, rule_at, literals, stamp_of, reading_of}
+use Rattle.books.specs.Meaning.{Rule, Atom, Meaning, bind_some, rule_at, literals, stamp_of}
 use Rattle.books.specs.Check.{first_below, head_fault, rule_fault, book_fault, unless}
 use Rattle.books.specs.Judged.{relates, both_pass, SoundRule, Sound, Breaks, Precedes, rule_of, step_of, of_counts, Judged}
 use Rattle.books.specs.declared.fault.CheckFault.{CheckFault}
 use Rattle.books.specs.declared.fault.CheckFault.TheVariants.{TooLarge, BodyTooLong, HeadMissing, HeadIsReading, LiteralMissing, PositiveOutOfOrder, NegativeOutOfOrder, SlotMissing, RuleMissing, SheetTooShort}
 use Rattle.books.specs.declared.fault.Fault.{Fault}
-use Rattle.books.specs.declared.fault.Fault.TheVariants.{Checking}
 use Rattle.books.proofs.First.{first_at, first_none}
 use Rattle.books.proofs.Places.{slice_get_some, slice_get_within, all_slice_get, slice_get_all, option_map_some}
 use Rattle.books.proofs.Judging.{one, clash, Passed, unbroken, Outcome, judge_rule}

@@ -2,7 +2,7 @@
 use Rattle.std.specs.Prelude.{ℕ, zero, suc, ◌+◌, Bool, cond, ◌||◌, length, Some, None, Ok, Err, Option, Result, nat_lt}
 use Rattle.std.specs.List.{slice_get}
 use Rattle.std.specs.Option.{option_or}
-use Rattle.books.specs.Meaning.{Rule, Atom, Meaning, bind_some, rule_at, stamp_of, literal_of}
+use Rattle.books.specs.Meaning.{Atom, Meaning, bind_some, rule_at, stamp_of, literal_of}
 use Rattle.books.specs.declared.fault.CheckFault.{CheckFault}
 use Rattle.books.specs.declared.fault.CheckFault.TheVariants.{TooLarge, BodyTooLong, HeadMissing, HeadIsReading, LiteralMissing, PositiveOutOfOrder, NegativeOutOfOrder}
 use Rattle.books.specs.declared.fault.Fault.{Fault}

@@ -1,7 +1,6 @@
 -- The layer, number and values of every refusal.
 use Rattle.std.specs.Prelude.{ℕ}
-use Rattle.books.specs.declared.fault.Layer.{Layer}
-use Rattle.books.specs.declared.fault.Layer.TheVariants.{Reading, Checking, Running}
+use Rattle.books.specs.declared.fault.Layer.TheVariants.{Reading, Checking}
 use Rattle.books.specs.declared.fault.Values.{Values}
 use Rattle.books.specs.declared.fault.Values.TheVariants.{One, RuleLiteral}
 use Rattle.books.specs.declared.fault.Refusal.{Refusal}

@@ -1,5 +1,5 @@
 -- The forms agree with their grammar, each from the byte after its bracket on.
-use Rattle.std.proofs.Common.{◌≡◌, ℕ, ◌+◌, ◌<◌, Bool, true, false, cond, leb, List, [], ◌∷◌, ◌++◌, Some, None, Ok, codes, Result, refl, ap, ◌∙◌}
+use Rattle.std.proofs.Common.{◌≡◌, ℕ, ◌<◌, Bool, true, false, cond, leb, List, [], ◌∷◌, ◌++◌, Some, None, Ok, codes, Result, refl, ap, ◌∙◌}
 use Rattle.std.proofs.lemmas.Bool.{leb-false, lt-leb}
 use Rattle.books.specs.Meaning.{Atom, Rule}
 use Rattle.books.specs.declared.fault.ReadFault.TheVariants.{TooMany}

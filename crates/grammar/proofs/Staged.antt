@@ -1,5 +1,5 @@
 -- The form at which a reader stands agrees with the forms that are allowed there.
-use Rattle.std.proofs.Common.{◌≡◌, ℕ, ◌+◌, cond, ◌⊎◌, List, [], ◌∷◌, ◌++◌, Some, None, Ok, codes, Result, sym, refl, ap, ◌∙◌, subst, inl, inr}
+use Rattle.std.proofs.Common.{◌≡◌, ℕ, cond, ◌⊎◌, List, [], ◌∷◌, ◌++◌, Some, None, Ok, codes, Result, sym, refl, ap, ◌∙◌, subst, inl, inr}
 use Rattle.std.specs.List.{slice_get}
 use Rattle.books.specs.Meaning.{Rule, Atom}
 use Rattle.books.specs.declared.fault.Fault.{Fault}

@@ -1,10 +1,9 @@
 -- Steps back from a tick.
-use Rattle.std.proofs.Common.{◌≡◌, ℕ, suc, ◌+◌, ◌-◌, ◌*◌, ◌<◌, ◌≤◌, Bool, true, false, leb, List, [], ◌∷◌, ◌++◌, map, length, get_or, take, Decides, sym, refl, ap, ◌∙◌, mul-le-mul_right, add-mul, arith}
+use Rattle.std.proofs.Common.{◌≡◌, ℕ, ◌+◌, ◌-◌, ◌*◌, ◌<◌, ◌≤◌, Bool, true, false, leb, List, length, get_or, Decides, sym, refl, mul-le-mul_right, add-mul, arith}
 use Rattle.std.specs.List.{AllByRecursion}
 use Rattle.std.proofs.ByRecursion.{All-get_or, Decides-by_and}
 use Rattle.std.proofs.lemmas.Bool.{leb-true, le-leb}
-use Rattle.std.proofs.lemmas.Bool.Decides.{not_from_Decides}
-use Rattle.makes.specs.Repeats.{started_by, atom_back}
+use Rattle.makes.specs.Repeats.{started_by}
 use Rattle.makes.specs.declared.patterns.Step.{Step}
 
 pub started_decides : (t : ℕ) (xs : List Step) → Decides (started_by t xs) (AllByRecursion (λ s. s.back ≤ t) xs)

@@ -4,7 +4,7 @@ use Rattle.std.specs.List.{slice_get}
 use Rattle.std.specs.Option.{option_flatten}
 use Rattle.std.proofs.lemmas.Bool.{cases_eq, eq-eqb, ne_eqb, lt-leb}
 use Rattle.books.specs.Meaning.{Rule, Meaning, rule_at}
-use Rattle.books.specs.Judged.{SoundRule, Sound}
+use Rattle.books.specs.Judged.{Sound}
 use Rattle.makes.specs.Strikes.{strike_from, struck_meaning, strike_fault, StandsOver}
 
 pub length-strike_from : (struck : ℕ → Bool) (k : ℕ) (rs : List (Option Rule)) → length (strike_from struck k rs) ≡ length rs

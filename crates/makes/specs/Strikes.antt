@@ -4,7 +4,7 @@ use Rattle.books.specs.Meaning.{Rule, Meaning, rule_at}
 use Rattle.books.specs.Judged.{Sound}
 use Rattle.books.specs.declared.fault.CheckFault.{CheckFault}
 use Rattle.books.specs.declared.fault.CheckFault.TheVariants.{RuleMissing}
-use Rattle.words.specs.Members.{has_number, with_number}
+use Rattle.words.specs.Members.{with_number}
 
 -- the rules from number k on, those whose number is in the set made vacant
 abbrev pub strike_from : (ℕ → Bool) → ℕ → List (Option Rule) → List (Option Rule)

@@ -1,6 +1,6 @@
 -- A route's mask against its aisles, and what `part_of` keeps.
-use Rattle.std.specs.Prelude.{◌≡◌, ℕ, zero, suc, ◌+◌, ◌*◌, ◌/◌, ◌%◌, ◌^◌, ◌<◌, ◌≤◌, Bool, true, false, not, ◌&&◌, ◌||◌, T, ◌⊎◌, ◌==◌, bit_and, refl}
-use Rattle.std.proofs.Common.{mod-eq_of_lt, zero-add, arith, add-one, sym, ap, ◌∙◌, subst, inl, inr, T_not}
+use Rattle.std.specs.Prelude.{◌≡◌, ℕ, zero, suc, ◌+◌, ◌*◌, ◌/◌, ◌%◌, ◌^◌, ◌<◌, Bool, true, false, not, ◌&&◌, ◌||◌, T, ◌==◌, bit_and, refl}
+use Rattle.std.proofs.Common.{mod-eq_of_lt, arith, ap, ◌∙◌, T_not}
 use Rattle.std.proofs.Math.Dec.{not_T}
 use Rattle.std.specs.Int.Bits.{and_zero_l}
 use Rattle.std.proofs.lemmas.Nat.{mod-pow-add, mod_below, pow_pos, and_le_l, and_block}

@@ -1,5 +1,5 @@
 -- A number's digits, one by one.
-use Rattle.std.proofs.Common.{◌≡◌, ℕ, ◌+◌, ◌*◌, ◌^◌, ◌<◌, ◌≤◌, List, Some, None, Option, sym, refl, ap, ◌∙◌, pow-suc, add-one, arith}
+use Rattle.std.proofs.Common.{◌≡◌, ℕ, ◌+◌, ◌*◌, ◌^◌, ◌<◌, List, Option, sym, ap, ◌∙◌, pow-suc, add-one, arith}
 use native.Mathlib.Nat.{pow-le-pow_right}
 use Rattle.text.specs.Numbers.{digit_at, digits_from, one_more, grown}
 use Rattle.text.proofs.Turned.{turns_more}

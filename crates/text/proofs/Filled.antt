@@ -1,8 +1,8 @@
 -- The tables after each form.
-use Rattle.std.proofs.Common.{◌≡◌, ℕ, ◌+◌, ◌<◌, ◌≤◌, Bool, true, false, cond, List, [], ◌∷◌, ◌++◌, map, length, take, drop, set, Ok, Err, Option, Result, sym, refl, ap, ◌∙◌, subst, arith, length-set}
+use Rattle.std.proofs.Common.{◌≡◌, ℕ, ◌+◌, ◌<◌, ◌≤◌, true, false, cond, List, [], ◌∷◌, ◌++◌, map, length, take, drop, set, Ok, Err, Option, Result, sym, refl, ap, ◌∙◌, subst, arith, length-set}
 use Rattle.std.proofs.lemmas.List.{take_more_set, map_push, drop-set-lt, drop-drop}
 use Rattle.std.specs.Option.{option_map}
-use Rattle.books.specs.Meaning.{Rule, Atom, Meaning}
+use Rattle.books.specs.Meaning.{Rule, Atom}
 use Rattle.books.specs.declared.fault.Fault.{Fault}
 use Rattle.makes.specs.Flats.{atom_of, rule_of}
 use Rattle.makes.specs.declared.rows.AtomRow.{AtomRow}
@@ -10,7 +10,7 @@ use Rattle.makes.specs.declared.rows.RuleRow.{RuleRow}
 use Rattle.text.specs.Bytes.{and_then}
 use Rattle.text.specs.Forms.{Line, line_of, form_at}
 use Rattle.text.specs.Reads.{Progress, start_progress, start_reader, moved_by, after, finished, one_form, progress_at, Roomy, put_atom, put_rule, Rows, Held}
-use Rattle.text.specs.Turns.{turns, tries}
+use Rattle.text.specs.Turns.{tries}
 use Rattle.text.specs.declared.reader.Reader.{Reader}
 use Rattle.text.specs.declared.reader.Room.{Room}
 use Rattle.text.specs.declared.form.Form.{Form}

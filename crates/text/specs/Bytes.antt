@@ -1,5 +1,5 @@
 -- One byte of a text at a time: what may stand at a place, and the place after it.
-use Rattle.std.specs.Prelude.{ℕ, ◌+◌, Bool, cond, List, Some, None, Ok, Err, Option, Result, ◌==◌}
+use Rattle.std.specs.Prelude.{ℕ, ◌+◌, cond, List, Some, None, Ok, Err, Option, Result, ◌==◌}
 use Rattle.std.specs.List.{slice_get}
 use Rattle.books.specs.declared.fault.ReadFault.TheVariants.{Byte}
 use Rattle.books.specs.declared.fault.Fault.{Fault}

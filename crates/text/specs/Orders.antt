@@ -1,5 +1,5 @@
 -- The word of the order form, among the three.
-use Rattle.std.specs.Prelude.{ℕ, max, cond, List, [], ◌∷◌, Some, None, codes, Option}
+use Rattle.std.specs.Prelude.{ℕ, max, cond, List, Some, None, codes, Option}
 use Rattle.text.specs.Kinds.{begins}
 use Rattle.text.specs.Words.{agrees_to}
 use Rattle.text.specs.declared.order.Word.{Word}

@@ -1,5 +1,5 @@
 -- A whole text: its forms one after another, and the book that they make.
-use Rattle.std.specs.Prelude.{◌≡◌, ℕ, ◌+◌, ◌<◌, ◌≤◌, min, Bool, true, false, cond, ◌&&◌, List, [], ◌∷◌, ◌++◌, map, length, take, drop, Some, None, Ok, Err, Option, Result, ◌==◌, slice_set}
+use Rattle.std.specs.Prelude.{◌≡◌, ℕ, ◌+◌, ◌<◌, ◌≤◌, min, Bool, true, false, cond, ◌&&◌, List, [], ◌∷◌, ◌++◌, map, length, take, drop, Ok, Err, Option, Result, ◌==◌, slice_set}
 use Rattle.std.specs.Option.{option_map}
 use Rattle.books.specs.Meaning.{Rule, Atom, Meaning}
 use Rattle.books.specs.declared.fault.Fault.{Fault}

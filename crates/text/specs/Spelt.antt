@@ -1,12 +1,12 @@
 -- The canonical spelling of a book: no leading zeros.
-use Rattle.std.specs.Prelude.{ℕ, zero, suc, ◌+◌, ◌/◌, ◌%◌, ◌^◌, ◌≤◌, Bool, cond, List, [], ◌∷◌, ◌++◌, length, Some, None, codes, decimal, Option, ◌==◌}
+use Rattle.std.specs.Prelude.{ℕ, zero, suc, ◌/◌, ◌%◌, ◌^◌, ◌≤◌, Bool, cond, List, [], ◌++◌, length, Some, None, codes, decimal, Option, ◌==◌}
 use Rattle.std.specs.List.{slice_get}
 use Rattle.books.specs.Meaning.{Rule, Atom, Meaning, bind_some, rule_at, positive_count_of, negative_count_of}
 use Rattle.stamps.specs.declared.tick.Tick.{Tick}
 use Rattle.stamps.specs.declared.route.Route.{Route}
 use Rattle.stamps.specs.declared.then.Then.{Then}
 use Rattle.text.specs.Forms.{closing}
-use Rattle.text.specs.Kinds.{order_opening, atom_opening, rule_opening, void_opening, end_opening}
+use Rattle.text.specs.Kinds.{order_opening, atom_opening, rule_opening, void_opening}
 
 -- what f gives at the numbers below n, one after another
 unfoldable pub up_to : (ℕ → List ℕ) → ℕ → List ℕ

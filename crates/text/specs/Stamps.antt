@@ -1,5 +1,5 @@
 -- Stamps as a text has them: a number, a pair of numbers, or rising aisles.
-use Rattle.std.specs.Prelude.{ℕ, ◌+◌, ◌^◌, Bool, true, false, cond, List, [], ◌∷◌, Ok, Err, codes, Result, bit_or, nat_lt}
+use Rattle.std.specs.Prelude.{ℕ, ◌+◌, ◌^◌, Bool, cond, List, Ok, Err, codes, Result, bit_or, nat_lt}
 use Rattle.books.specs.declared.fault.ReadFault.TheVariants.{NotRising}
 use Rattle.books.specs.declared.fault.Fault.{Fault}
 use Rattle.books.specs.declared.fault.Fault.TheVariants.{Reading}

@@ -1,5 +1,5 @@
 -- A set of numbers in words of 64 bits.
-use Rattle.std.specs.Prelude.{ℕ, ◌/◌, ◌%◌, ◌^◌, Bool, List, set, bit_or, slice_index, slice_set}
+use Rattle.std.specs.Prelude.{ℕ, ◌/◌, ◌%◌, ◌^◌, Bool, List, bit_or, slice_index, slice_set}
 use Rattle.words.specs.Bits.{has_bit}
 
 -- number n is bit n mod 64 of word n div 64

@@ -1,12 +1,11 @@
 -- A book without gaps is small enough to be written.
-use Rattle.std.proofs.Common.{◌≡◌, ℕ, ◌<◌, ◌≤◌, Bool, true, false, cond, ◌||◌, ltb, ◌⊎◌, length, Some, None, Option, sym, refl, ap, ◌∙◌, subst, inl, inr, arith}
+use Rattle.std.proofs.Common.{◌≡◌, ℕ, ◌≤◌, Bool, true, false, cond, ◌||◌, ltb, length, Some, None, Option, sym, refl, ap, subst, inl, inr, arith}
 use Rattle.std.proofs.lemmas.Option.{slice_get_past}
 use Rattle.std.proofs.lemmas.Bool.{cases_lt, or_parts, ltb-false}
-use Rattle.std.specs.List.{slice_get}
 use Rattle.std.specs.Option.{option_map, option_flatten}
 use Rattle.books.proofs.First.{first_none}
 use Rattle.books.specs.Check.{first_below}
-use Rattle.books.specs.Meaning.{Rule, Meaning, bind_some, rule_at, positive_count_of, negative_count_of}
+use Rattle.books.specs.Meaning.{Rule, Meaning, bind_some, rule_at}
 use Rattle.books.specs.declared.fault.CheckFault.{CheckFault}
 use Rattle.text.specs.Spelt.{count_or, Few}
 use Rattle.writing.specs.Writes.{rule_gap, book_gap}

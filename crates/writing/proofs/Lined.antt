@@ -1,10 +1,10 @@
 -- Lines of a book, by what its questions answer.
-use Rattle.std.proofs.Common.{◌≡◌, ℕ, Bool, true, false, cond, List, [], ◌∷◌, ◌++◌, length, Some, None, decimal, Option, sym, refl, ap, ◌∙◌, arith}
+use Rattle.std.proofs.Common.{◌≡◌, ℕ, Bool, true, false, cond, List, [], ◌++◌, length, Some, None, decimal, Option, sym, refl, ap, ◌∙◌, arith}
 use Rattle.std.specs.Option.{option_map}
 use Rattle.std.proofs.lemmas.Bool.{ne_eqb}
 use Rattle.books.specs.Meaning.{Rule, Atom}
 use Rattle.text.specs.Forms.{closing}
-use Rattle.text.specs.Kinds.{atom_opening, rule_opening, void_opening}
+use Rattle.text.specs.Kinds.{atom_opening, rule_opening}
 use Rattle.text.specs.Spelt.{item, space, kind_text, atom_text, body_text, rule_text, count_or}
 
 pub item_next : (i : ℕ) (o : Option ℕ) (a : ℕ) → o ≡ Some a → (i ≡ 0 → ⊥) → item i o ≡ space ++ decimal a

@@ -1,7 +1,6 @@
 -- The answers of the program, put together.
-use Rattle.std.proofs.Common.{◌≡◌, ℕ, ◌+◌, ◌<◌, ◌≤◌, Bool, true, false, cond, ltb, List, map, length, take, drop, Some, None, Ok, Err, Option, Result, sym, refl, ap, ◌∙◌, subst, arith}
+use Rattle.std.proofs.Common.{◌≡◌, ℕ, ◌+◌, ◌<◌, ◌≤◌, Bool, true, false, cond, ltb, List, length, Some, None, Ok, Err, Option, Result, sym, refl, ap, ◌∙◌, subst, arith}
 use Rattle.std.proofs.lemmas.Bool.{ltb-false, lt-ltb, le-ltb, cond-true, cond-false}
-use Rattle.std.specs.Option.{option_map}
 use Rattle.books.specs.declared.fault.CheckFault.{CheckFault}
 use Rattle.books.specs.declared.fault.CheckFault.TheVariants.{SheetTooShort}
 use Rattle.books.specs.declared.fault.Fault.{Fault}
@@ -12,7 +11,7 @@ use Rattle.books.specs.declared.fault.ReadFault.TheVariants.{TooMany}
 use Rattle.books.specs.declared.fault.Refusal.{Refusal}
 use Rattle.text.specs.Bytes.{and_then, wrong_at}
 use Rattle.text.specs.Orders.{word_of, order_refused}
-use Rattle.writing.specs.Replies.{length_of, sheet_with, FitsOn, Replied, canonical_at, by_word, program_at, refusal_text, reply_text, tick_before, tick_not_after, route_before, route_not_after, then_before, then_not_after}
+use Rattle.writing.specs.Replies.{Replied, canonical_at, by_word, program_at, refusal_text, reply_text, tick_before, tick_not_after, route_before, route_not_after, then_before, then_not_after}
 use Rattle.text.specs.Spelt.{tick_text, route_text, pair_text}
 use Rattle.text.specs.Stamps.{tick_at, route_at, pair_at, tick_word, route_word, then_word}
 use Rattle.text.specs.Written.{laid, Wrote}

@@ -1,5 +1,5 @@
 -- What a reader's answer says of the book of the text.
-use Rattle.std.proofs.Common.{◌≡◌, ℕ, ◌≤◌, List, map, length, take, Ok, Err, Option, Result, sym, refl, ap, ◌∙◌, subst, arith}
+use Rattle.std.proofs.Common.{◌≡◌, ℕ, ◌≤◌, List, map, length, take, Ok, Err, Option, Result, sym, ap, ◌∙◌, arith}
 use Rattle.std.specs.Option.{option_map}
 use Rattle.books.specs.Meaning.{Rule, Atom, Meaning}
 use Rattle.books.specs.declared.fault.Fault.{Fault}

@@ -1,8 +1,7 @@
 -- What the writer of a book refuses, and what the sheet then holds.
-use Rattle.std.specs.Prelude.{◌≡◌, ℕ, ◌+◌, Bool, cond, ◌||◌, List, ◌++◌, length, drop, is_some, Some, None, Ok, Err, Option, Result, nat_lt}
-use Rattle.std.specs.Option.{option_or}
+use Rattle.std.specs.Prelude.{ℕ, ◌+◌, cond, ◌||◌, List, ◌++◌, length, drop, is_some, Some, None, Ok, Err, Option, Result, nat_lt}
 use Rattle.books.specs.Check.{first_below}
-use Rattle.books.specs.Meaning.{Rule, Meaning, bind_some, rule_at, stamp_of, literal_of}
+use Rattle.books.specs.Meaning.{Meaning, bind_some, rule_at, stamp_of, literal_of}
 use Rattle.books.specs.declared.fault.CheckFault.{CheckFault}
 use Rattle.books.specs.declared.fault.CheckFault.TheVariants.{TooLarge, BodyTooLong, HeadMissing, LiteralMissing, SheetTooShort}
 use Rattle.books.specs.declared.fault.Fault.{Fault}

@@ -1,4 +1,4 @@
-use Rattle.std.proofs.Common.{◌≤◌, List, take, sym, subst, take_all}
+use Rattle.std.proofs.Common.{◌≤◌, sym, subst, take_all}
 use Rattle.std.specs.List.{AllByRecursion}
 use Rattle.std.proofs.ByRecursion.{All-more}
 use Rattle.makes.specs.declared.patterns.Step.{Step}

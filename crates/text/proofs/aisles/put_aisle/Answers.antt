@@ -1,4 +1,4 @@
-use Rattle.std.proofs.Common.{◌≡◌, refl, arith}
+use Rattle.std.proofs.Common.{refl, arith}
 use Rattle.text.proofs.Aisled.{no_aisle_lem, next_aisle}
 use Rattle.text.proofs.Laid.{wrote_none, wrote_then, wrote_as}
 use Rattle.text.proofs.aisles.put_aisle.Goals as goal

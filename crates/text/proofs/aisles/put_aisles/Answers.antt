@@ -1,6 +1,5 @@
-use Rattle.std.proofs.Common.{◌≡◌, ◌+◌, sym, ap, subst, arith}
-use Rattle.text.specs.Spelt.{up_to, aisle_text}
-use Rattle.text.specs.Written.{Wrote}
+use Rattle.std.proofs.Common.{arith}
+use Rattle.text.specs.Spelt.{aisle_text}
 use Rattle.text.proofs.Laid.{wrote_more, wrote_start}
 use Rattle.text.proofs.aisles.put_aisles.Goals as goal
 

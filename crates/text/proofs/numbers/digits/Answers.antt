@@ -1,4 +1,4 @@
-use Rattle.std.proofs.Common.{◌≡◌, ◌<◌, Some, None, sym, refl, ap, ◌∙◌, arith}
+use Rattle.std.proofs.Common.{◌≡◌, Some, None, sym, ap, ◌∙◌, arith}
 use Rattle.text.specs.Numbers.{one_more, digits_from}
 use Rattle.text.proofs.Digits.{few_digits, one_digit_more, no_digit_more, digits_more}
 use Rattle.text.proofs.Turned.{turns_none}

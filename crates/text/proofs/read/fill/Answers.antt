@@ -1,6 +1,6 @@
-use Rattle.std.proofs.Common.{◌≡◌, ◌≤◌, length, Ok, Err, sym, ap, ◌∙◌, subst, arith}
+use Rattle.std.proofs.Common.{◌≡◌, length, sym, ap, ◌∙◌, arith}
 use Rattle.std.proofs.lemmas.Result.{err_from_is_err_and}
-use Rattle.text.specs.Reads.{Roomy, one_form, start_progress, progress_at}
+use Rattle.text.specs.Reads.{one_form, start_progress, progress_at}
 use Rattle.text.specs.Turns.{tries}
 use Rattle.text.proofs.Filled.{reached_start, reached_stays, reached_more, reached_refused, same_reached, roomier}
 use Rattle.text.proofs.read.fill.Goals as goal

@@ -1,8 +1,8 @@
-use Rattle.std.proofs.Common.{◌≡◌, ℕ, ◌+◌, ◌-◌, ◌<◌, ◌≤◌, Bool, leb, List, length, take, set, Ok, Err, sym, refl, ap, ◌∙◌, arith, length-set}
+use Rattle.std.proofs.Common.{◌≡◌, ℕ, ◌-◌, ◌<◌, ◌≤◌, Bool, leb, List, length, take, set, Ok, sym, refl, ap, ◌∙◌, arith, length-set}
 use Rattle.std.proofs.lemmas.Result.{err_from_is_err_and}
 use Rattle.std.proofs.lemmas.List.{length-take-le}
 use Rattle.text.specs.Bytes.{and_then}
-use Rattle.text.specs.Rules.{Listed, no_atom, one_literal}
+use Rattle.text.specs.Rules.{no_atom, one_literal}
 use Rattle.text.specs.Turns.{tries}
 use Rattle.text.proofs.Bodied.{literal_refused, literal_more, literal_none, body_unopened, body_read, when_some}
 use Rattle.text.proofs.Turned.{turns_none, tries_refused}

@@ -1,5 +1,5 @@
 use Rattle.std.proofs.Common.{◌≡◌, ◌≤◌, length, take, Ok}
-use Rattle.text.specs.Rules.{Listed, no_atom, one_literal}
+use Rattle.text.specs.Rules.{no_atom, one_literal}
 use Rattle.text.specs.Turns.{tries}
 use Rattle.text.proofs.rule.body.Given as goal
 

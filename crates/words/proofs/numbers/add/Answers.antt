@@ -1,7 +1,7 @@
-use Rattle.std.proofs.Common.{◌≡◌, ◌*◌, ◌/◌, ◌%◌, ◌^◌, ◌<◌, eqb, get_or, set, sym, ap, ◌∙◌, subst, arith}
+use Rattle.std.proofs.Common.{◌/◌, ◌%◌, ◌<◌, get_or, set, sym, ap, ◌∙◌, arith}
 use lib.Bits.{bit_or}
 use Rattle.std.proofs.lemmas.Nat.{one_shl, mod_below}
-use Rattle.words.specs.Members.{has_number, with_number}
+use Rattle.words.specs.Members.{has_number}
 use Rattle.words.proofs.Adding.{with_number_lem, beyond_same}
 use Rattle.words.proofs.numbers.add.Goals as goal
 

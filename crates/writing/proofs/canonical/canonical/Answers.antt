@@ -1,10 +1,9 @@
-use Rattle.std.proofs.Common.{◌≡◌, ℕ, List, length, take, Ok, Err, Result, sym, refl, ap, ◌∙◌}
+use Rattle.std.proofs.Common.{ℕ, List, length, take, Err, Result, sym, ap, ◌∙◌}
 use Rattle.books.specs.Meaning.{Meaning}
 use Rattle.books.specs.declared.fault.Fault.{Fault}
 use Rattle.std.proofs.lemmas.Result.{err_from_is_err_and}
 use Rattle.makes.specs.Flats.{flat_meaning}
 use Rattle.text.specs.Bytes.{and_then}
-use Rattle.text.specs.Reads.{book_at, room_of}
 use Rattle.writing.specs.Replies.{checked_text}
 use Rattle.writing.proofs.Replying.{replied_refused, replied_as}
 use Rattle.writing.proofs.Taken.{taken, taken_refused}

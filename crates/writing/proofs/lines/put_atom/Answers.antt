@@ -1,4 +1,4 @@
-use Rattle.std.proofs.Common.{◌≡◌, length, sym, refl, arith}
+use Rattle.std.proofs.Common.{sym, refl, arith}
 use Rattle.std.specs.List.{slice_get}
 use Rattle.text.specs.Spelt.{kind_text}
 use Rattle.text.proofs.Laid.{wrote_none, wrote_then, wrote_as}

@@ -1,4 +1,4 @@
-use Rattle.std.proofs.Common.{◌≡◌, sym, refl}
+use Rattle.std.proofs.Common.{sym, refl}
 use Rattle.text.specs.Spelt.{book_text}
 use Rattle.text.proofs.Laid.{wrote_then, wrote_as}
 use Rattle.writing.proofs.lines.put_book.Goals as goal

@@ -1,4 +1,4 @@
-use Rattle.std.proofs.Common.{◌≡◌, refl, ap, arith}
+use Rattle.std.proofs.Common.{refl, ap, arith}
 use Rattle.text.specs.Spelt.{item}
 use Rattle.text.proofs.Laid.{wrote_none, wrote_then, wrote_as}
 use Rattle.writing.proofs.Lined.{item_next}

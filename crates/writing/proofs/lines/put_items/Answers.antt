@@ -1,7 +1,6 @@
 use Rattle.std.proofs.Common.{◌≡◌, sym, refl, ap, arith}
 use Rattle.books.specs.Meaning.{rule_at}
 use Rattle.text.specs.Spelt.{up_to, item, item_in}
-use Rattle.text.specs.Written.{Wrote}
 use Rattle.text.proofs.Laid.{wrote_more, wrote_start, wrote_as}
 use Rattle.writing.proofs.lines.put_items.Goals as goal
 

@@ -1,8 +1,8 @@
-use Rattle.std.proofs.Common.{◌≡◌, sym, refl, ap, ◌∙◌, arith}
+use Rattle.std.proofs.Common.{refl, ap, ◌∙◌, arith}
 use Rattle.books.specs.Meaning.{rule_at}
 use Rattle.text.specs.Spelt.{count_or}
 use Rattle.text.proofs.Laid.{wrote_then, wrote_as}
-use Rattle.writing.proofs.Lined.{rule_text_lem, void_text}
+use Rattle.writing.proofs.Lined.{rule_text_lem}
 use Rattle.writing.proofs.lines.put_rule.Goals as goal
 
 pub returns : goal.returns

@@ -1,4 +1,4 @@
-use Rattle.std.proofs.Common.{◌≡◌, ◌<◌, ◌≤◌, length, sym, refl, ap, arith}
+use Rattle.std.proofs.Common.{◌≡◌, length, sym, refl, ap, arith}
 use Rattle.text.specs.Spelt.{up_to, rule_line_of}
 use Rattle.text.proofs.Laid.{wrote_more, wrote_start, wrote_as}
 use Rattle.writing.proofs.lines.put_rules.Goals as goal

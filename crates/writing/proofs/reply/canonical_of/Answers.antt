@@ -1,4 +1,4 @@
-use Rattle.std.proofs.Common.{◌≡◌, length, Some, None, Err, sym, refl, ap, ◌∙◌}
+use Rattle.std.proofs.Common.{Some, None, sym, refl, ap, ◌∙◌}
 use Rattle.text.specs.Bytes.{wrong_at}
 use Rattle.text.specs.declared.order.Word.TheVariants as word
 use Rattle.writing.proofs.Replying.{replied_refused, replied_as, program_long, program_is}

@@ -1,4 +1,4 @@
-use Rattle.std.proofs.Common.{◌≡◌, refl, ap, arith}
+use Rattle.std.proofs.Common.{refl, ap, arith}
 use Rattle.writing.specs.Replies.{values_text}
 use Rattle.text.proofs.Laid.{wrote_then, wrote_as}
 use Rattle.writing.proofs.reply.put_values.Goals as goal

@@ -1,6 +1,5 @@
-use Rattle.std.proofs.Common.{◌≡◌, ◌/◌, ◌<◌, false, ◌||◌, leb, length, None, sym, refl, ap, ◌∙◌, arith}
+use Rattle.std.proofs.Common.{◌≡◌, None, sym, refl, ap, ◌∙◌, arith}
 use Rattle.std.proofs.lemmas.Nat.{div_below}
-use Rattle.std.proofs.lemmas.Bool.{lt-leb, or_from}
 use Rattle.books.specs.Check.{unless}
 use Rattle.words.specs.Members.{has_number}
 use Rattle.makes.specs.Strikes.{strike_fault, struck_set}
