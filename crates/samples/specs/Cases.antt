@@ -1,8 +1,8 @@
 -- Worked cases of the definitions, in one table.
-use Rattle.std.specs.Prelude.{◌≡◌, ℕ, Bool, true, false, List, [], ◌∷◌, Some, None, Option, nat_le, nat_lt}
+use Rattle.std.specs.Prelude.{◌≡◌, ℕ, true, false, [], ◌∷◌, Some, None, Option, nat_le, nat_lt}
 use Rattle.std.specs.Option.{option_map}
 use Rattle.stamps.specs.Aisles.{part_of, proper_part}
-use Rattle.books.specs.Meaning.{Atom, Rule, Meaning}
+use Rattle.books.specs.Meaning.{Atom, Meaning}
 use Rattle.books.specs.Check.{book_fault}
 use Rattle.books.specs.Faults.{check_refusal, checking_at}
 use Rattle.books.specs.declared.fault.Refusal.{Refusal}

@@ -1,5 +1,5 @@
 -- A book whose one rule has seven positive atoms.
-use Rattle.std.specs.Prelude.{ℕ, false, List, [], ◌∷◌, Some}
+use Rattle.std.specs.Prelude.{false, [], ◌∷◌, Some}
 use Rattle.books.specs.Meaning.{Rule, Atom, Meaning}
 use Rattle.stamps.specs.declared.tick.Tick.{Tick}
 
