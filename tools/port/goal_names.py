@@ -8,8 +8,11 @@ STD = """from_residual from_output to_owned as_ptr get_mut split_at copy_from_sl
 write_fmt into_bytes into_string clone_from_slice unwrap_or as_slice as_bytes as_str as_mut_slice as_ref to_string to_vec is_empty is_some
 is_none is_ok is_err try_reserve from_utf8 into_iter iter_mut with_capacity push_str to_le_bytes to_be_bytes checked_add checked_mul
 checked_sub wrapping_add try_from try_into from_array extend_from_slice from_digit to_digit""".split()
+# A letter of a goal's name.
 NAME = r"[\w'+\xb7-]"
+# A line of a clause or a comment, whose words are not names of the code.
 CONTRACT = re.compile(r"(?m)^\s*(ghost |requires|ensures|//|law ).*$")
+# What the check makes of a name itself: as it was and as it is.
 MADE = [
     (r"(^|[-+])in-(ok|err)(?=[-+]|$)", r"\1in_\2"),
     (r"(^|[-+])in-default(?=[-+\xb7]|$)", r"\1in_default"),
@@ -51,10 +54,10 @@ def mended(text, sources):
         to = turned(goal, sources)
         if to != goal:
             text = re.sub(r"(?<![\w'\xb7-])" + re.escape(goal) + r"(?![\w'\xb7-])", to, text)
+    # In a path behind a variable each part may have a name of the source; `g.` leads to what a bound gives, whose names port.py has turned.
     path = lambda m: m[0] if m[1] == "g" else m[1] + "".join("." + turned(part, sources) for part in m[2].split(".")[1:])
     text = re.sub(r"(?<![\w'.-])([a-z]\w?'?)((?:\." + NAME + r"+)+)", path, text)
-    # An answer that says `search rules` and no more is what the check tries by itself.
-    text = re.sub(r"(?m)^pub ([\w'+-]+) : goal\.\1\n\1 (?:g )?c = search rules\n\n?", "", text)
+    # Ways into a join, as `then-x w ↦ ..`, and what a use line of Goals names.
     ways = re.findall(r"(?<=[|\[] )((?:in|then|else)-[\w+'-]+)(?= \w+ \u21a6)", text)
     named = [x.strip() for m in re.findall(r"(?m)^use Rattle\.[\w.+'-]*Goals\.\{(.*)\}", text) for x in m.split(",")]
     for name in ways + named:

@@ -76,7 +76,7 @@ fn takes_no_more(text: &[u8], atoms: usize, rules: usize, form: &[u8]) -> Result
 }
 
 #[test]
-fn the_last_atom_form_and_one_more(rt: HostRuntime) -> Result<(), Fail> {
+fn the_last_atom_form_and_one_more() -> Result<(), Fail> {
     let rows = [mark_row::<Tick>(); 1024];
     let book = Flat {
         atoms: &rows,
@@ -92,7 +92,7 @@ fn the_last_atom_form_and_one_more(rt: HostRuntime) -> Result<(), Fail> {
 }
 
 #[test]
-fn the_last_rule_form_and_one_more(rt: HostRuntime) -> Result<(), Fail> {
+fn the_last_rule_form_and_one_more() -> Result<(), Fail> {
     let rows = [mark_row::<Tick>(); 1];
     let rules = [None; 1024];
     let book = Flat {

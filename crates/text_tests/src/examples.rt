@@ -1,7 +1,10 @@
-// The books of the folder examples, as they stand there: a test reads no file, so their texts are literals.
+// The books of the folder examples, as they stand there: their texts are literals, so that no test reads a file.
 use crate::{begins_with, mark_row, mark_rule, replies};
 use books::fault::Fault;
 use makes::rows::AtomRow;
+use stamps::route::Route;
+use stamps::then::Then;
+use stamps::tick::Tick;
 use std::test::Fail;
 use text::read::read;
 use text::stamp::Spelled;
@@ -278,41 +281,27 @@ fn comes_back<S: Spelled>(
 
 #[test]
 fn the_closed_aisle_comes_back(rt: HostRuntime) -> Result<(), Fail> {
-    assert!(rt;
-        comes_back(
-            CLOSED_AISLE,
-            &mut [mark_row::<stamps::tick::Tick>(); 8],
-            5,
-            3
-        )?
-    );
+    assert!(rt; comes_back(CLOSED_AISLE, &mut [mark_row::<Tick>(); 8], 5, 3)?);
     assert!(rt; replies(CLOSED_AISLE, CLOSED_AISLE));
     Ok(())
 }
 
 #[test]
 fn the_junction_comes_back(rt: HostRuntime) -> Result<(), Fail> {
-    assert!(rt; comes_back(JUNCTION, &mut [mark_row::<stamps::route::Route>(); 8], 5, 4)?);
+    assert!(rt; comes_back(JUNCTION, &mut [mark_row::<Route>(); 8], 5, 4)?);
     assert!(rt; replies(JUNCTION, JUNCTION));
     Ok(())
 }
 
 #[test]
 fn the_reroute_comes_back(rt: HostRuntime) -> Result<(), Fail> {
-    assert!(rt; comes_back(REROUTE, &mut [mark_row::<stamps::tick::Tick>(); 8], 6, 6)?);
+    assert!(rt; comes_back(REROUTE, &mut [mark_row::<Tick>(); 8], 6, 6)?);
     assert!(rt; replies(REROUTE, REROUTE));
     Ok(())
 }
 
 #[test]
 fn the_shift_comes_back(rt: HostRuntime) -> Result<(), Fail> {
-    assert!(rt;
-        comes_back(
-            SHIFT,
-            &mut [mark_row::<stamps::then::Then<stamps::tick::Tick, stamps::tick::Tick>>(); 128],
-            120,
-            90
-        )?
-    );
+    assert!(rt; comes_back(SHIFT, &mut [mark_row::<Then<Tick, Tick>>(); 128], 120, 90)?);
     Ok(())
 }
