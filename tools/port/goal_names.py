@@ -54,8 +54,8 @@ def mended(text, sources):
         to = turned(goal, sources)
         if to != goal:
             text = re.sub(r"(?<![\w'\xb7-])" + re.escape(goal) + r"(?![\w'\xb7-])", to, text)
-    # In a path behind a variable each part may have a name of the source; `g.` leads to what a bound gives, whose names port.py has turned.
-    path = lambda m: m[0] if m[1] == "g" else m[1] + "".join("." + turned(part, sources) for part in m[2].split(".")[1:])
+    # In a path behind a variable each part may have a name of the source.
+    path = lambda m: m[1] + "".join("." + turned(part, sources) for part in m[2].split(".")[1:])
     text = re.sub(r"(?<![\w'.-])([a-z]\w?'?)((?:\." + NAME + r"+)+)", path, text)
     # Ways into a join, as `then-x w ↦ ..`, and what a use line of Goals names.
     ways = re.findall(r"(?<=[|\[] )((?:in|then|else)-[\w+'-]+)(?= \w+ \u21a6)", text)
