@@ -1,9 +1,10 @@
 -- The check's verdict on a whole book: it accepts exactly the sound ones, and a refusal names the first fault.
 use Rattle.std.proofs.Common.{◌≡◌, ℕ, suc, ◌+◌, ◌-◌, ◌*◌, ◌<◌, ◌≤◌, Bool, true, false, cond, ◌||◌, T, ltb, ◌⊎◌, length, Some, None, Option, Result, sym, refl, ap, ◌∙◌, subst, inl, inr, arith}
+use Rattle.std.specs.Bool.{IsTrue}
 use Rattle.std.specs.List.{slice_get}
 use Rattle.std.specs.Option.{option_map, option_flatten}
 use Rattle.std.proofs.iter.runs.Lists.{nth_left, nth_right}
-use Rattle.std.proofs.lemmas.Bool.{cases_lt, ltb-false, ltb-true, or_parts, or_cases}
+use Rattle.std.proofs.lemmas.Bool.{false≢true, cases_lt, ltb-false, ltb-true, or_parts, or_cases}
 use Rattle.books.specs.Meaning.{Rule, Atom, Meaning, bind_some, rule_at, literals, stamp_of}
 use Rattle.books.specs.Check.{first_below, head_fault, rule_fault, book_fault, unless}
 use Rattle.books.specs.Judged.{relates, both_pass, SoundRule, Sound, Breaks, Precedes, rule_of, step_of, of_counts, Judged}
@@ -25,21 +26,13 @@ module _ {S : Type 0} (m : Meaning S) where
   pub relates_in : (test : S → S → Bool) (a b : ℕ) (s t : S) → stamp_of m a ≡ Some s → stamp_of m b ≡ Some t → relates test m a b ≡ test s t
   relates_in test a b s t ea eb = rw (ea, eb) refl
 
-  pub relates_out : (test : S → S → Bool) (a b : ℕ) → T (relates test m a b) → (s : S) × (t : S) × (stamp_of m a ≡ Some s) × (stamp_of m b ≡ Some t) × T (test s t)
+  pub relates_out : (test : S → S → Bool) (a b : ℕ) → IsTrue (relates test m a b) → (s : S) × (t : S) × (stamp_of m a ≡ Some s) × (stamp_of m b ≡ Some t) × IsTrue (test s t)
   relates_out test a b h = out (stamp_of m a) (stamp_of m b) refl refl h
     where
-      out : (o q : Option S) → stamp_of m a ≡ o → stamp_of m b ≡ q → T (both_pass test o q) → (s : S) × (t : S) × (stamp_of m a ≡ Some s) × (stamp_of m b ≡ Some t) × T (test s t)
+      out : (o q : Option S) → stamp_of m a ≡ o → stamp_of m b ≡ q → IsTrue (both_pass test o q) → (s : S) × (t : S) × (stamp_of m a ≡ Some s) × (stamp_of m b ≡ Some t) × IsTrue (test s t)
       out (Some s) (Some t) e f h = (s, t, e, f, h)
-      out (Some s) None e f h = absurd h
-      out None q e f h = absurd h
-
-T_true : (b : Bool) → T b → b ≡ true
-T_true true t = refl
-T_true false t = absurd t
-
-true-T : (b : Bool) → b ≡ true → T b
-true-T true e = tt
-true-T false e = let z : ◌≡◌ {A = ℕ} 0 1 = cc in absurd (omega arith)
+      out (Some s) None e f h = absurd (false≢true h)
+      out None q e f h = absurd (false≢true h)
 
 module _ {S : Type 0} (tests : Tests S) (m : Meaning S) where
   abbrev Clean : Rule → Type 0
@@ -51,20 +44,20 @@ module _ {S : Type 0} (tests : Tests S) (m : Meaning S) where
     few_positives = ((c 1).lengths (omega arith)).0;
     few_negatives = ((c 1).lengths (omega arith)).1;
     derived = (c 3).derived (omega arith);
-    positives = all_slice_get (λ a. T (relates tests.not_after m a r.head)) r.positives (λ i a e.
+    positives = all_slice_get (λ a. IsTrue (relates tests.not_after m a r.head)) r.positives (λ i a e.
         let l = slice_get_some r.positives i a e in
         let f : slice_get (literals r) i ≡ Some a = nth_left r.positives r.negatives i l ∙ e in
         let s = stamped m a ((c (2 * (i + 1) + 2)).literal i a f (omega arith)) in
         let h = stamped m r.head ((c 2).there (omega arith)) in
         let ok = (c (2 * (i + 1) + 3)).ordered i a f (omega arith) s.0 h.0 s.1 h.1 in
-        true-T (relates tests.not_after m a r.head) (relates_in m tests.not_after a r.head s.0 h.0 s.1 h.1 ∙ ok.0 l));
-    negatives = all_slice_get (λ a. T (relates tests.before m a r.head)) r.negatives (λ j a e.
+        relates_in m tests.not_after a r.head s.0 h.0 s.1 h.1 ∙ ok.0 l);
+    negatives = all_slice_get (λ a. IsTrue (relates tests.before m a r.head)) r.negatives (λ j a e.
         let i : ℕ = length r.positives + j in
         let f : slice_get (literals r) i ≡ Some a = nth_right r.positives r.negatives j ∙ e in
         let s = stamped m a ((c (2 * (i + 1) + 2)).literal i a f (omega arith)) in
         let h = stamped m r.head ((c 2).there (omega arith)) in
         let ok = (c (2 * (i + 1) + 3)).ordered i a f (omega arith) s.0 h.0 s.1 h.1 in
-        true-T (relates tests.before m a r.head) (relates_in m tests.before a r.head s.0 h.0 s.1 h.1 ∙ ok.1 (omega arith)));
+        relates_in m tests.before a r.head s.0 h.0 s.1 h.1 ∙ ok.1 (omega arith));
   }
 
   literal_positive : (r : Rule) (i a : ℕ) → slice_get (literals r) i ≡ Some a → i < length r.positives → slice_get r.positives i ≡ Some a
@@ -76,14 +69,14 @@ module _ {S : Type 0} (tests : Tests S) (m : Meaning S) where
       sym (nth_right r.positives r.negatives (i - length r.positives)) ∙ ap (slice_get (literals r)) at ∙ f
 
   module _ (r : Rule) (s : SoundRule tests m r) where
-    positive_relates : (i a : ℕ) → slice_get (literals r) i ≡ Some a → i < length r.positives → T (relates tests.not_after m a r.head)
-    positive_relates i a f l = slice_get_all (λ b. T (relates tests.not_after m b r.head)) r.positives s.positives i a (literal_positive r i a f l)
+    positive_relates : (i a : ℕ) → slice_get (literals r) i ≡ Some a → i < length r.positives → IsTrue (relates tests.not_after m a r.head)
+    positive_relates i a f l = slice_get_all (λ b. IsTrue (relates tests.not_after m b r.head)) r.positives s.positives i a (literal_positive r i a f l)
 
-    negative_relates : (i a : ℕ) → slice_get (literals r) i ≡ Some a → length r.positives ≤ i → T (relates tests.before m a r.head)
-    negative_relates i a f l = slice_get_all (λ b. T (relates tests.before m b r.head)) r.negatives s.negatives (i - length r.positives) a (literal_negative r i a f l)
+    negative_relates : (i a : ℕ) → slice_get (literals r) i ≡ Some a → length r.positives ≤ i → IsTrue (relates tests.before m a r.head)
+    negative_relates i a f l = slice_get_all (λ b. IsTrue (relates tests.before m b r.head)) r.negatives s.negatives (i - length r.positives) a (literal_negative r i a f l)
 
-    passes : (test : S → S → Bool) (a : ℕ) → T (relates test m a r.head) → (u h : S) → stamp_of m a ≡ Some u → stamp_of m r.head ≡ Some h → test u h ≡ true
-    passes test a t u h eu eh = sym (relates_in m test a r.head u h eu eh) ∙ T_true (relates test m a r.head) t
+    passes : (test : S → S → Bool) (a : ℕ) → IsTrue (relates test m a r.head) → (u h : S) → stamp_of m a ≡ Some u → stamp_of m r.head ≡ Some h → test u h ≡ true
+    passes test a t u h eu eh = sym (relates_in m test a r.head u h eu eh) ∙ t
 
     -- a sound rule passes every test
     sound_clean : Clean r

@@ -1,12 +1,13 @@
 -- Sets of atoms. A set is a test on numbers, so that membership is always decided.
-use Rattle.std.specs.Prelude.{◌≡◌, ℕ, zero, suc, Bool, true, false, not, ◌&&◌, ◌||◌, T, List, [], ◌∷◌, ◌==◌}
+use Rattle.std.specs.Prelude.{◌≡◌, ℕ, zero, suc, Bool, true, false, not, ◌&&◌, ◌||◌, List, [], ◌∷◌, ◌==◌}
+use Rattle.std.specs.Bool.{IsTrue}
 
 abbrev pub Set : Type 0
 Set = ℕ → Bool
 
 -- each atom of the first set is in the second
 abbrev pub Within : Set → Set → Type 0
-Within X Y = (a : ℕ) → T (X a) → T (Y a)
+Within X Y = (a : ℕ) → IsTrue (X a) → IsTrue (Y a)
 
 -- the two sets have the same atoms
 abbrev pub Same : Set → Set → Type 0

@@ -1,8 +1,9 @@
 -- Stable models of a book: what remains of its rules once a set has judged their negatives, and the least set closed under that.
-use Rattle.std.specs.Prelude.{◌≡◌, ℕ, cond, T, [], Some, None, Option}
+use Rattle.std.specs.Prelude.{◌≡◌, ℕ, cond, [], Some, None, Option}
 use Rattle.books.specs.Meaning.{Rule, Meaning, bind_some, rule_at}
 use Rattle.models.specs.Sets.{Set, Within, every, some}
 use Rattle.models.specs.Verdicts.{is_reading}
+use Rattle.std.specs.Bool.{IsTrue}
 
 -- the rule without its negatives; struck where one of them is in M
 abbrev pub reduced : Set → Rule → Option Rule
@@ -14,7 +15,7 @@ remaining m M k = bind_some (reduced M) (rule_at m k)
 
 -- X has the head of each remaining rule all of whose positives it has
 abbrev pub Closed : {S : Type 0} → Meaning S → Set → Set → Type 0
-Closed m M X = (k : ℕ) (r : Rule) → remaining m M k ≡ Some r → T (every X r.positives) → T (X r.head)
+Closed m M X = (k : ℕ) (r : Rule) → remaining m M k ≡ Some r → IsTrue (every X r.positives) → IsTrue (X r.head)
 
 -- each atom of the set is a reading of the book
 abbrev pub ReadingsOf : {S : Type 0} → Meaning S → Set → Type 0

@@ -4,6 +4,7 @@ use Rattle.std.specs.Prelude.{Bool, false, not, ◌&&◌, ◌||◌, length, Some
 use Rattle.books.specs.Meaning.{Rule, Meaning, rule_at, reading_of}
 use Rattle.books.specs.Judged.{relates}
 use Rattle.models.specs.Sets.{Set, every, some, some_below}
+use Rattle.stamps.specs.Orders.{Tests}
 
 -- there is something, and it passes the test
 abbrev pub passes : {X : Type 0} → (X → Bool) → Option X → Bool
@@ -43,21 +44,21 @@ unfoldable pub pending : {S : Type 0} → Meaning S → Set → Set → Set
 pending m held still_open a = due m held a || still_open a
 
 -- the atom is due or still open, and its stamp is not after that of one of the rule's negatives
-unfoldable pub blocks : {S : Type 0} → (S → S → Bool) → Meaning S → Set → Set → Rule → Set
+unfoldable pub blocks : {S : Type 0} → Tests S → Meaning S → Set → Set → Rule → Set
 blocks tests m held still_open r b = pending m held still_open b && some (relates tests.not_after m b) r.negatives
 
 -- some atom of the book blocks the rule
-unfoldable pub blocked : {S : Type 0} → (S → S → Bool) → Meaning S → Set → Set → Rule → Bool
+unfoldable pub blocked : {S : Type 0} → Tests S → Meaning S → Set → Set → Rule → Bool
 blocked tests m held still_open r = some_below (length m.atoms) (blocks tests m held still_open r)
 
 -- the atom is due, and at least one ready rule with that head has no blocker
-unfoldable pub safe : {S : Type 0} → (S → S → Bool) → Meaning S → Set → Set → Set
+unfoldable pub safe : {S : Type 0} → Tests S → Meaning S → Set → Set → Set
 safe tests m held still_open a = due m held a && heads_some m (λ r. ready m held r && not (blocked tests m held still_open r)) a
 
 -- some atom that is due or still open has a stamp not after the atom's own
-unfoldable pub awaited : {S : Type 0} → (S → S → Bool) → Meaning S → Set → Set → Set
+unfoldable pub awaited : {S : Type 0} → Tests S → Meaning S → Set → Set → Set
 awaited tests m held still_open a = some_below (length m.atoms) (λ b. pending m held still_open b && relates tests.not_after m b a)
 
 -- the atom is not held, and no due atom and no open reading has a stamp not after its own
-unfoldable pub ruled_out : {S : Type 0} → (S → S → Bool) → Meaning S → Set → Set → Set
+unfoldable pub ruled_out : {S : Type 0} → Tests S → Meaning S → Set → Set → Set
 ruled_out tests m held still_open a = not (holds m held a) && not (awaited tests m held still_open a)
