@@ -1,6 +1,6 @@
 -- An atom once ruled out stays ruled out: whatever becomes due has a newly held atom among its positives,
 -- and that one was itself due or open before.
-use Rattle.std.proofs.Common.{◌≡◌, ℕ, Bool, not, ◌&&◌, ◌||◌, eqb, ◌⊎◌, List, [], ◌∷◌, Some, subst, inl, inr, ⊎_elim}
+use Rattle.std.proofs.Common.{◌≡◌, ℕ, not, ◌&&◌, ◌||◌, eqb, ◌⊎◌, List, [], ◌∷◌, Some, subst, inl, inr, ⊎_elim}
 use Rattle.books.specs.Meaning.{Rule, Meaning, rule_at}
 use Rattle.books.specs.Judged.{Sound, relates}
 use Rattle.models.specs.Sets.{Set, Within, every}

@@ -1,5 +1,5 @@
 -- With nothing open, something due gives something safe, and sweeping comes to an end.
-use Rattle.std.proofs.Common.{◌≡◌, ℕ, zero, suc, ◌<◌, ◌≤◌, Bool, not, length, Some, subst, ⊎_elim, not-suc-le-zero, arith, refl}
+use Rattle.std.proofs.Common.{◌≡◌, ℕ, zero, suc, ◌<◌, ◌≤◌, not, length, Some, subst, ⊎_elim, not-suc-le-zero, arith, refl}
 use Rattle.books.specs.Meaning.{Rule, Meaning, rule_at}
 use Rattle.books.specs.Judged.{Sound, relates}
 use Rattle.models.specs.Sets.{Set, Empty, some, some_below}

@@ -1,5 +1,5 @@
 -- Moves after moves.
-use Rattle.std.proofs.Common.{◌≡◌, ℕ, Bool, true, ◌||◌, List, [], ◌∷◌, ◌++◌, sym, refl, ap, ◌∙◌}
+use Rattle.std.proofs.Common.{◌≡◌, ℕ, true, ◌||◌, List, [], ◌∷◌, ◌++◌, sym, refl, ap, ◌∙◌}
 use Rattle.books.specs.Meaning.{Meaning}
 use Rattle.models.specs.Moves.{State, Move, may, after, after_all, may_all, feeds, closes, fed_by, closed_by}
 use Rattle.models.proofs.Truth.{and_in, and_left, and_right, or_assoc}

@@ -1,5 +1,5 @@
 -- The theorems, for every order that keeps the laws.
-use Rattle.std.proofs.Common.{Bool, sym, subst}
+use Rattle.std.proofs.Common.{sym, subst}
 use mathlib.Core.Path.{fun_ext}
 use Rattle.models.specs.Sets.{Set}
 use Rattle.models.specs.Stability.{Stable}

@@ -1,15 +1,15 @@
 -- Ticks, as numbers, keep the laws; and what the check accepts is one test that computes.
-use Rattle.std.proofs.Common.{◌≡◌, ℕ, zero, suc, ◌<◌, ◌≤◌, Bool, true, false, not, ◌&&◌, ltb, leb, List, [], ◌∷◌, length, Some, None, Option, refl, subst, arith}
+use Rattle.std.proofs.Common.{◌≡◌, ℕ, zero, suc, ◌≤◌, Bool, true, false, not, ◌&&◌, leb, List, [], ◌∷◌, length, Some, None, Option, refl, subst, arith}
 use Rattle.std.specs.List.{AllByRecursion}
 use Rattle.books.specs.Meaning.{Rule, Atom, Meaning, rule_at, reading_of}
 use Rattle.books.specs.Judged.{Sound, SoundRule, relates}
 use Rattle.models.specs.Sets.{Set, every}
 use Rattle.models.specs.Verdicts.{passes, is_derived}
 use Rattle.models.proofs.Places.{book}
-use Rattle.models.proofs.Truth.{and_left, and_right, false_in, never}
+use Rattle.models.proofs.Truth.{and_left, and_right, never}
 use Rattle.stamps.specs.Orders.{Tests}
 use Rattle.std.specs.Bool.{IsTrue}
-use Rattle.std.proofs.lemmas.Bool.{le-leb, ltb-true, lt-ltb, leb-true}
+use Rattle.std.proofs.lemmas.Bool.{leb-true}
 use Rattle.stamps.specs.Orders.{IsLawful}
 use Rattle.stamps.specs.Laws.{tick_lawful}
 use Rattle.models.specs.Examples.{numbers}

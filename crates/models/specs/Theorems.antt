@@ -1,5 +1,5 @@
 -- What holds of every book that the check accepts. The tests `before` and `not_after` are those of any order that keeps the laws.
-use Rattle.std.specs.Prelude.{◌≡◌, ℕ, Bool, false, ◌||◌, List, ◌++◌, length}
+use Rattle.std.specs.Prelude.{◌≡◌, ℕ, false, ◌||◌, List, ◌++◌, length}
 use Rattle.books.specs.Meaning.{Meaning}
 use Rattle.books.specs.Judged.{Sound}
 use Rattle.models.specs.Sets.{Set, Within, Same, Empty}

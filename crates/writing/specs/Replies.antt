@@ -1,5 +1,5 @@
 -- What the program that reads, checks and writes a book answers.
-use Rattle.std.specs.Prelude.{◌≡◌, ℕ, ◌≤◌, Bool, cond, not, ◌&&◌, ◌||◌, List, ◌++◌, length, drop, Some, None, Ok, Err, codes, decimal, Option, Result, nat_le, nat_lt}
+use Rattle.std.specs.Prelude.{◌≡◌, ℕ, ◌≤◌, cond, List, ◌++◌, length, drop, Some, None, Ok, Err, codes, decimal, Option, Result, nat_lt}
 use Rattle.books.specs.Check.{book_fault, unless}
 use Rattle.books.specs.Meaning.{Meaning}
 use Rattle.books.specs.declared.fault.Fault.{Fault}
