@@ -5,9 +5,10 @@ use mathlib.Core.Path.{fun_ext}
 use Rattle.books.specs.Meaning.{Rule, Meaning, rule_at}
 use Rattle.books.specs.Judged.{Sound, relates}
 use Rattle.models.specs.Sets.{Set, Within, every, some, none}
-use Rattle.models.specs.Verdicts.{is_reading, holds, pending, safe}
+use Rattle.models.specs.Verdicts.{is_reading, holds, pending, safe, ruled_out}
 use Rattle.models.specs.Stability.{ReadingsOf}
-use Rattle.models.specs.Moves.{State, Move, feed, close, take, sweep, start, may, after, after_all, may_all, reached, feeds, closes, fed_by, ruled_out_in}
+use Rattle.models.specs.Moves.{Move, feed, close, take, sweep, start, may, after, after_all, may_all, reached, feeds, closes, fed_by}
+use Rattle.models.specs.Sets.{State}
 use Rattle.models.proofs.Truth.{and_in, and_left, and_right, or_left, or_right, or_out, not_in, either, or_assoc, never}
 use Rattle.models.proofs.Members.{every_within}
 use Rattle.models.proofs.Places.{Headed}
@@ -21,7 +22,7 @@ module _ {S : Type 0} (tests : Tests S) (m : Meaning S) where
   -- X has the head of each rule whose positives it has and whose negatives are all ruled out
   abbrev pub Obeys : State → Set → Type 0
   Obeys s X =
-      (k : ℕ) (r : Rule) → rule_at m k ≡ Some r → IsTrue (every X r.positives) → IsTrue (every (ruled_out_in tests m s) r.negatives) → IsTrue (X r.head)
+      (k : ℕ) (r : Rule) → rule_at m k ≡ Some r → IsTrue (every X r.positives) → IsTrue (every (ruled_out tests m s) r.negatives) → IsTrue (X r.head)
 
   -- what is held comes from the fed readings by rules whose negatives are ruled out
   abbrev pub Grounded : State → Set → Type 0
@@ -39,45 +40,45 @@ abbrev pub Covered : {S : Type 0} → Meaning S → State → Set → Set → Ty
 Covered m s fed closed = (a : ℕ) → IsTrue (is_reading m a) → IsTrue (s.still_open a) ⊎ (IsTrue (fed a) ⊎ IsTrue (closed a))
 
 -- where none of a list is held and nothing due or open is not after one of it, each of it is ruled out
-each_ruled : {S : Type 0} (tests : Tests S) (m : Meaning S) (s : State) (ns : List ℕ) → (IsTrue (some (holds m s.held) ns) → ⊥) →
-    ((b : ℕ) → IsTrue (pending m s.held s.still_open b) → IsTrue (some (relates tests.not_after m b) ns) → ⊥) → IsTrue (every (ruled_out_in tests m s) ns)
+each_ruled : {S : Type 0} (tests : Tests S) (m : Meaning S) (s : State) (ns : List ℕ) → (IsTrue (some (holds m s) ns) → ⊥) →
+    ((b : ℕ) → IsTrue (pending m s b) → IsTrue (some (relates tests.not_after m b) ns) → ⊥) → IsTrue (every (ruled_out tests m s) ns)
 each_ruled tests m s [] f g = refl
 each_ruled tests m s (n ∷ ns) f g =
-    and_in (ruled_out_in tests m s n) (every (ruled_out_in tests m s) ns)
-    (ruled_in m s.held s.still_open tests n
-    (λ h. f (or_left (holds m s.held n) (some (holds m s.held) ns) h))
+    and_in (ruled_out tests m s n) (every (ruled_out tests m s) ns)
+    (ruled_in m s tests n
+    (λ h. f (or_left (holds m s n) (some (holds m s) ns) h))
     (λ b p r. g b p (or_left (relates tests.not_after m b n) (some (relates tests.not_after m b) ns) r)))
     (each_ruled tests m s ns
-    (λ h. f (or_right (holds m s.held n) (some (holds m s.held) ns) h))
+    (λ h. f (or_right (holds m s n) (some (holds m s) ns) h))
     (λ b p r. g b p (or_right (relates tests.not_after m b n) (some (relates tests.not_after m b) ns) r)))
 
 module _ {S : Type 0} (tests : Tests S) (m : Meaning S) (s : State) where
   -- the negatives of a ready rule without a blocker are ruled out
-  negatives_ruled : (r : Rule) → IsTrue (unblocked m s.held s.still_open tests r) → IsTrue (every (ruled_out_in tests m s) r.negatives)
+  negatives_ruled : (r : Rule) → IsTrue (unblocked m s tests r) → IsTrue (every (ruled_out tests m s) r.negatives)
   negatives_ruled r u =
       each_ruled tests m s r.negatives
-      (ready_out m s.held r (unblocked_ready m s.held s.still_open tests r u)).negatives
-      (λ b p t. unblocked_free m s.held s.still_open tests r u (blocked_in m s.held s.still_open tests r b p t))
+      (ready_out m s r (unblocked_ready m s tests r u)).negatives
+      (λ b p t. unblocked_free m s tests r u (blocked_in m s tests r b p t))
 
   -- a safe atom is in every set that obeys and has what is held
-  safe_obeys : (X : Set) → Obeys tests m s X → Within s.held X → (a : ℕ) → IsTrue (safe tests m s.held s.still_open a) → IsTrue (X a)
+  safe_obeys : (X : Set) → Obeys tests m s X → Within s.held X → (a : ℕ) → IsTrue (safe tests m s a) → IsTrue (X a)
   safe_obeys X obeys has a t =
-      let h : Headed m a (λ r. IsTrue (unblocked m s.held s.still_open tests r)) = safe_rule m s.held s.still_open tests a t in
-      let full : Ready m s.held h.rule = ready_out m s.held h.rule (unblocked_ready m s.held s.still_open tests h.rule h.so) in
+      let h : Headed m a (λ r. IsTrue (unblocked m s tests r)) = safe_rule m s tests a t in
+      let full : Ready m s h.rule = ready_out m s h.rule (unblocked_ready m s tests h.rule h.so) in
       subst (λ (b : ℕ). IsTrue (X b)) h.heads
       (obeys h.number h.rule h.is
-      (every_within (holds m s.held) X (λ b k. has b (holds_held m s.held b k)) h.rule.positives full.positives)
+      (every_within (holds m s) X (λ b k. has b (holds_held m s b k)) h.rule.positives full.positives)
       (negatives_ruled h.rule h.so))
 
   -- a later state, in which only fed and safe atoms are newly held, is grounded too
-  pub grounded_more : (t : State) (fed more : Set) → ((a : ℕ) → IsTrue (ruled_out_in tests m s a) → IsTrue (ruled_out_in tests m t a)) → Within fed more →
-      ((a : ℕ) → IsTrue (t.held a) → IsTrue (s.held a) ⊎ (IsTrue (more a) ⊎ IsTrue (safe tests m s.held s.still_open a))) →
+  pub grounded_more : (t : State) (fed more : Set) → ((a : ℕ) → IsTrue (ruled_out tests m s a) → IsTrue (ruled_out tests m t a)) → Within fed more →
+      ((a : ℕ) → IsTrue (t.held a) → IsTrue (s.held a) ⊎ (IsTrue (more a) ⊎ IsTrue (safe tests m s a))) →
       Grounded tests m s fed → Grounded tests m t more
   grounded_more t fed more last within fresh grounded X has obeys a h =
       ⊎_elim (old a) (⊎_elim (has a) (safe_obeys X obeyed old a)) (fresh a h)
     where
       obeyed : Obeys tests m s X
-      obeyed k r e ps ns = obeys k r e ps (every_within (ruled_out_in tests m s) (ruled_out_in tests m t) last r.negatives ns)
+      obeyed k r e ps ns = obeys k r e ps (every_within (ruled_out tests m s) (ruled_out tests m t) last r.negatives ns)
 
       old : Within s.held X
       old = grounded X (λ b f. has b (within b f)) obeyed
@@ -105,14 +106,14 @@ module _ {S : Type 0} (tests : Tests S) (m : Meaning S) (s : State) where
   open_goes (take x) a o = inl o
   open_goes sweep a o = inl o
 
-  held_from : (x : Move) → IsTrue (may tests m s x) → (a : ℕ) → IsTrue ((after tests m s x).held a) → IsTrue (s.held a) ⊎ (IsTrue (feeds x a) ⊎ IsTrue (safe tests m s.held s.still_open a))
+  held_from : (x : Move) → IsTrue (may tests m s x) → (a : ℕ) → IsTrue ((after tests m s x).held a) → IsTrue (s.held a) ⊎ (IsTrue (feeds x a) ⊎ IsTrue (safe tests m s a))
   held_from (feed x) t a h = ⊎_elim inl (λ e. inr (inl e)) (or_out (s.held a) (eqb x a) h)
   held_from (close x) t a h = inl h
   held_from (take x) t a h =
       ⊎_elim inl
-      (λ e. inr (inr (subst (λ (b : ℕ). IsTrue (safe tests m s.held s.still_open b)) (eqb-true x a e) t)))
+      (λ e. inr (inr (subst (λ (b : ℕ). IsTrue (safe tests m s b)) (eqb-true x a e) t)))
       (or_out (s.held a) (eqb x a) h)
-  held_from sweep t a h = ⊎_elim inl (λ e. inr (inr e)) (or_out (s.held a) (safe tests m s.held s.still_open a) h)
+  held_from sweep t a h = ⊎_elim inl (λ e. inr (inr e)) (or_out (s.held a) (safe tests m s a) h)
 
 -- one set or the other
 abbrev pub union : Set → Set → Set

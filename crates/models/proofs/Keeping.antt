@@ -5,7 +5,8 @@ use Rattle.books.specs.Judged.{Sound}
 use Rattle.models.specs.Sets.{Set, Within}
 use Rattle.models.specs.Verdicts.{passes, in_book, is_reading, is_derived, ready, due}
 use Rattle.models.specs.Stability.{ReadingsOf}
-use Rattle.models.specs.Moves.{State, Move, feed, close, take, sweep, start, may, after, after_all, may_all, Run, reached, feeds, closes, fed_by, closed_by, Outcome}
+use Rattle.models.specs.Moves.{Move, feed, close, take, sweep, start, may, after, after_all, may_all, Run, reached, feeds, closes, fed_by, closed_by, Outcome}
+use Rattle.models.specs.Sets.{State}
 use Rattle.models.proofs.Truth.{and_left, and_right, or_left, or_right, or_out, not_out, false_in, never}
 use Rattle.models.proofs.Places.{Headed}
 use Rattle.models.proofs.Uniqueness.{head_derived}
@@ -26,10 +27,10 @@ not_both m a = clash (reading_of m a)
     clash (Some b) p q = not_out b q p
 
 -- a due atom is no reading
-pub due_derived : {S : Type 0} (m : Meaning S) (held : Set) (a : ℕ) → IsTrue (due m held a) → IsTrue (is_derived m a)
-due_derived m held a t =
-    let h : Headed m a (λ r. IsTrue (ready m held r)) = due_rule m held a t in
-    subst (λ (b : ℕ). IsTrue (is_derived m b)) h.heads (ready_out m held h.rule h.so).derived
+pub due_derived : {S : Type 0} (m : Meaning S) (s : State) (a : ℕ) → IsTrue (due m s a) → IsTrue (is_derived m a)
+due_derived m s a t =
+    let h : Headed m a (λ r. IsTrue (ready m s r)) = due_rule m s a t in
+    subst (λ (b : ℕ). IsTrue (is_derived m b)) h.heads (ready_out m s h.rule h.so).derived
 
 module _ {S : Type 0} (tests : Tests S) (m : Meaning S) where
   -- nothing opens again

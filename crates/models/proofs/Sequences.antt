@@ -1,7 +1,8 @@
 -- Moves after moves.
 use Rattle.std.proofs.Common.{◌≡◌, ℕ, true, ◌||◌, List, [], ◌∷◌, ◌++◌, sym, refl, ap, ◌∙◌}
 use Rattle.books.specs.Meaning.{Meaning}
-use Rattle.models.specs.Moves.{State, Move, may, after, after_all, may_all, feeds, closes, fed_by, closed_by}
+use Rattle.models.specs.Moves.{Move, may, after, after_all, may_all, feeds, closes, fed_by, closed_by}
+use Rattle.models.specs.Sets.{State}
 use Rattle.models.proofs.Truth.{and_in, and_left, and_right, or_assoc}
 use Rattle.std.specs.Bool.{IsTrue}
 use Rattle.stamps.specs.Orders.{Tests}

@@ -4,9 +4,10 @@ use mathlib.Core.Path.{fun_ext}
 use Rattle.books.specs.Meaning.{Meaning}
 use Rattle.books.specs.Judged.{Sound}
 use Rattle.models.specs.Sets.{Set, Within, Same, none}
-use Rattle.models.specs.Verdicts.{in_book, holds, due}
+use Rattle.models.specs.Verdicts.{in_book, holds, due, ruled_out}
 use Rattle.models.specs.Stability.{ReadingsOf, Closed, Stable}
-use Rattle.models.specs.Moves.{State, Move, start, after, after_all, may_all, reached, sweeps, feeds, closes, fed_by, closed_by, Outcome, decided, NothingDue, ruled_out_in, model_of}
+use Rattle.models.specs.Moves.{Move, start, after, after_all, may_all, reached, sweeps, feeds, closes, fed_by, closed_by, Outcome, decided, NothingDue, model_of}
+use Rattle.models.specs.Sets.{State}
 use Rattle.models.proofs.Truth.{and_in, and_right, or_left, or_right, or_out, false_in, false_out, stands, or_assoc, never}
 use Rattle.models.proofs.Members.{every_within, none_of, some_within}
 use Rattle.models.proofs.Places.{reading_in_book, derived_in_book}
@@ -27,24 +28,24 @@ module _ {S : Type 0} {tests : Tests S} (laws : IsLawful tests) {m : Meaning S} 
       (λ k r e ps ns. derived_in_book m r.head (head_derived laws sound k r e))
 
   -- what is ruled out is not held
-  pub out_unheld : (s : State) (fed : Set) → Founded tests m s fed → (a : ℕ) → IsTrue (ruled_out_in tests m s a) → IsTrue (s.held a) → ⊥
-  out_unheld s fed f a out h = ruled_unheld m s.held s.still_open tests a out (holds_in m s.held a (held_in_book_lem s fed f a h) h)
+  pub out_unheld : (s : State) (fed : Set) → Founded tests m s fed → (a : ℕ) → IsTrue (ruled_out tests m s a) → IsTrue (s.held a) → ⊥
+  out_unheld s fed f a out h = ruled_unheld m s tests a out (holds_in m s a (held_in_book_lem s fed f a h) h)
 
   -- with nothing due, what is held is closed under what it leaves of the rules
   held_closed : (s : State) (fed : Set) → Founded tests m s fed → NothingDue m s → Closed m s.held s.held
   held_closed s fed f idle = closed_in m s.held s.held (λ k r e ps ns. stands (s.held r.head) (λ unheld.
-      false_out (due m s.held r.head) (idle r.head)
-      (due_in m s.held r.head
-      (λ h. unheld (holds_held m s.held r.head h))
+      false_out (due m s r.head) (idle r.head)
+      (due_in m s r.head
+      (λ h. unheld (holds_held m s r.head h))
       (record {
         number = k;
         rule = r;
         is = e;
         heads = refl;
-        so = ready_in m s.held r (record {
+        so = ready_in m s r (record {
           derived = head_derived laws sound k r e;
-          positives = every_within s.held (holds m s.held) (λ a h. holds_in m s.held a (held_in_book_lem s fed f a h) h) r.positives ps;
-          negatives = λ n. ns (some_within (holds m s.held) s.held (holds_held m s.held) r.negatives n);
+          positives = every_within s.held (holds m s) (λ a h. holds_in m s a (held_in_book_lem s fed f a h) h) r.positives ps;
+          negatives = λ n. ns (some_within (holds m s) s.held (holds_held m s) r.negatives n);
         });
       }))))
 
@@ -54,7 +55,7 @@ module _ {S : Type 0} {tests : Tests S} (laws : IsLawful tests) {m : Meaning S} 
     has = f.fed_held;
     closed = held_closed s fed f idle;
     least = λ X has closed. f.grounded X has (λ k r e ps ns.
-        closed_out m s.held X closed k r e ps (none_of (ruled_out_in tests m s) s.held (out_unheld s fed f) r.negatives ns));
+        closed_out m s.held X closed k r e ps (none_of (ruled_out tests m s) s.held (out_unheld s fed f) r.negatives ns));
   }
 
   covered_all : (s : State) (fed closed : Set) (xs : List Move) → Covered m s fed closed → Covered m (after_all tests m s xs) (union fed (fed_by xs)) (union closed (closed_by xs))
@@ -149,7 +150,7 @@ module _ {S : Type 0} {tests : Tests S} (laws : IsLawful tests) {m : Meaning S} 
         (kept_all laws sound (decided R now) (sweeps (length m.atoms)) sweeping a ((grows_decided tests m now R).kept a h))
 
     -- what is ruled out is not in it
-    pub out_of_model : (a : ℕ) → IsTrue (ruled_out_in tests m now a) → M a ≡ false
+    pub out_of_model : (a : ℕ) → IsTrue (ruled_out tests m now a) → M a ≡ false
     out_of_model a out =
         is_played a ∙
         false_in ((played now R).held a)

@@ -3,9 +3,10 @@ use Rattle.std.specs.Prelude.{◌≡◌, ℕ, zero, suc, true, false, cond, List
 use Rattle.stamps.specs.Orders.{Tests, tick_tests, route_tests}
 use Rattle.books.specs.Meaning.{Rule, Atom, Meaning}
 use Rattle.models.specs.Sets.{Set, some}
-use Rattle.models.specs.Verdicts.{due, blocks, safe}
+use Rattle.models.specs.Verdicts.{due, blocks, safe, ruled_out}
 use Rattle.models.specs.Stability.{ReadingsOf, Stable}
-use Rattle.models.specs.Moves.{State, feed, close, take, sweep, start, may, reached, ruled_out_in, model_of}
+use Rattle.models.specs.Moves.{feed, close, take, sweep, start, may, reached, model_of}
+use Rattle.models.specs.Sets.{State}
 
 -- numbers as ticks
 abbrev pub numbers : Tests ℕ
@@ -78,19 +79,19 @@ pub record ExamplesHold : Type 0 where
   pub five_with_one : ModelIs five_atoms (0 ∷ []) (0 ∷ 3 ∷ [])
   pub five_with_both : ModelIs five_atoms (0 ∷ 1 ∷ []) (0 ∷ 1 ∷ 2 ∷ 4 ∷ [])
   -- with 0 fed, 3 and 4 are due; the open reading 1 is level with 2 and so blocks the rule of 3; nothing is safe or ruled out yet
-  pub due_at_first : listed 5 (due five_atoms fed0.held) ≡ 3 ∷ 4 ∷ []
-  pub blockers_of_three : listed 5 (blocks numbers five_atoms fed0.held fed0.still_open (from 3 (0 ∷ []) (2 ∷ []))) ≡ 1 ∷ []
-  pub blockers_of_four : listed 5 (blocks numbers five_atoms fed0.held fed0.still_open (from 4 (0 ∷ []) (3 ∷ []))) ≡ 1 ∷ 3 ∷ []
+  pub due_at_first : listed 5 (due five_atoms fed0) ≡ 3 ∷ 4 ∷ []
+  pub blockers_of_three : listed 5 (blocks numbers five_atoms fed0 (from 3 (0 ∷ []) (2 ∷ []))) ≡ 1 ∷ []
+  pub blockers_of_four : listed 5 (blocks numbers five_atoms fed0 (from 4 (0 ∷ []) (3 ∷ []))) ≡ 1 ∷ 3 ∷ []
   pub not_yet : may numbers five_atoms fed0 (take 3) ≡ false
-  pub safe_at_first : listed 5 (safe numbers five_atoms fed0.held fed0.still_open) ≡ []
-  pub undecided_at_first : listed 5 (ruled_out_in numbers five_atoms fed0) ≡ []
+  pub safe_at_first : listed 5 (safe numbers five_atoms fed0) ≡ []
+  pub undecided_at_first : listed 5 (ruled_out numbers five_atoms fed0) ≡ []
   -- with 1 closed, 1 and 2 are ruled out and 3 is safe; 4 still waits for 3
-  pub out_then : listed 5 (ruled_out_in numbers five_atoms closed1) ≡ 1 ∷ 2 ∷ []
-  pub safe_then : listed 5 (safe numbers five_atoms closed1.held closed1.still_open) ≡ 3 ∷ []
+  pub out_then : listed 5 (ruled_out numbers five_atoms closed1) ≡ 1 ∷ 2 ∷ []
+  pub safe_then : listed 5 (safe numbers five_atoms closed1) ≡ 3 ∷ []
   pub still_blocked : may numbers five_atoms closed1 (take 4) ≡ false
   -- after the sweep 0 and 3 are held, the others are ruled out, and nothing is due
   pub held_at_last : listed 5 swept.held ≡ 0 ∷ 3 ∷ []
-  pub out_at_last : listed 5 (ruled_out_in numbers five_atoms swept) ≡ 1 ∷ 2 ∷ 4 ∷ []
-  pub due_at_last : listed 5 (due five_atoms swept.held) ≡ []
+  pub out_at_last : listed 5 (ruled_out numbers five_atoms swept) ≡ 1 ∷ 2 ∷ 4 ∷ []
+  pub due_at_last : listed 5 (due five_atoms swept) ≡ []
   -- atoms on other routes do not wait for each other
-  pub both_safe : listed 3 (safe masks three_routes (start three_routes).held (start three_routes).still_open) ≡ 0 ∷ 1 ∷ []
+  pub both_safe : listed 3 (safe masks three_routes (start three_routes)) ≡ 0 ∷ 1 ∷ []

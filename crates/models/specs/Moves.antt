@@ -1,16 +1,11 @@
 -- The moves of a run, over sets: from "nothing held, exactly the readings open", readings are fed or closed and safe atoms are taken.
 use Rattle.std.specs.Prelude.{◌≡◌, ℕ, zero, suc, Bool, true, false, ◌&&◌, ◌||◌, List, [], ◌∷◌, length, ◌==◌}
 use Rattle.books.specs.Meaning.{Meaning}
-use Rattle.models.specs.Sets.{Set, Within, Empty, none, adding, removing}
+use Rattle.models.specs.Sets.{Set, Within, Empty, none, adding, removing, State}
 use Rattle.models.specs.Verdicts.{is_reading, due, safe, ruled_out}
 use Rattle.models.specs.Stability.{ReadingsOf}
 use Rattle.std.specs.Bool.{IsTrue}
 use Rattle.stamps.specs.Orders.{Tests}
-
--- what is held, and what is still open
-pub record State : Type 0 where
-  pub held : Set
-  pub still_open : Set
 
 -- a reading is fed or closed, a safe atom is taken, or all safe atoms are swept together
 pub data Move : Type 0 where
@@ -27,7 +22,7 @@ start m = record { held = none; still_open = is_reading m }
 abbrev pub may : {S : Type 0} → Tests S → Meaning S → State → Move → Bool
 may tests m s (feed a) = s.still_open a
 may tests m s (close a) = s.still_open a
-may tests m s (take a) = safe tests m s.held s.still_open a
+may tests m s (take a) = safe tests m s a
 may tests m s sweep = true
 
 -- what is held and still open after the move
@@ -36,7 +31,7 @@ after tests m s (feed a) = record { held = adding a s.held; still_open = removin
 after tests m s (close a) = record { held = s.held; still_open = removing a s.still_open }
 after tests m s (take a) = record { held = adding a s.held; still_open = s.still_open }
 after tests m s sweep =
-    record { held = λ a. s.held a || safe tests m s.held s.still_open a; still_open = s.still_open }
+    record { held = λ a. s.held a || safe tests m s a; still_open = s.still_open }
 
 -- the state after moves, one after the other
 abbrev pub after_all : {S : Type 0} → Tests S → Meaning S → State → List Move → State
@@ -91,11 +86,7 @@ NothingOpen s = Empty s.still_open
 
 -- no atom is due
 abbrev pub NothingDue : {S : Type 0} → Meaning S → State → Type 0
-NothingDue m s = Empty (due m s.held)
-
--- the atom is ruled out in that state
-abbrev pub ruled_out_in : {S : Type 0} → Tests S → Meaning S → State → Set
-ruled_out_in tests m s = ruled_out tests m s.held s.still_open
+NothingDue m s = Empty (due m s)
 
 -- a possible outcome of a run: a set of readings with all the fed and none of the closed
 pub record Outcome {S : Type 0} (m : Meaning S) (moves : List Move) (readings : Set) : Type 0 where

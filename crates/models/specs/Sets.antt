@@ -43,3 +43,8 @@ some X (a ∷ rest) = X a || some X rest
 abbrev pub some_below : ℕ → Set → Bool
 some_below zero X = false
 some_below (suc n) X = X n || some_below n X
+
+-- what is held, and what is still open
+pub record State : Type 0 where
+  pub held : Set
+  pub still_open : Set

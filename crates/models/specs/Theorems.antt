@@ -3,9 +3,10 @@ use Rattle.std.specs.Prelude.{◌≡◌, ℕ, false, ◌||◌, List, ◌++◌, l
 use Rattle.books.specs.Meaning.{Meaning}
 use Rattle.books.specs.Judged.{Sound}
 use Rattle.models.specs.Sets.{Set, Within, Same, Empty}
-use Rattle.models.specs.Verdicts.{due, safe}
+use Rattle.models.specs.Verdicts.{due, safe, ruled_out}
 use Rattle.models.specs.Stability.{ReadingsOf, Stable}
-use Rattle.models.specs.Moves.{State, Move, after_all, Run, reached, sweeps, fed_by, Outcome, NothingOpen, NothingDue, ruled_out_in, model_of}
+use Rattle.models.specs.Moves.{Move, after_all, Run, reached, sweeps, fed_by, Outcome, NothingOpen, NothingDue, model_of}
+use Rattle.models.specs.Sets.{State}
 use Rattle.stamps.specs.Orders.{Tests}
 use Rattle.std.specs.Bool.{IsTrue}
 
@@ -24,7 +25,7 @@ EachHasOneModel {S} tests = (m : Meaning S) → Sound tests m → (readings : Se
 abbrev pub RuledOutLasts : {S : Type 0} → Tests S → Type 0
 RuledOutLasts {S} tests =
     (m : Meaning S) → Sound tests m → (moves more : List Move) → Run tests m (moves ++ more) → (a : ℕ) →
-    IsTrue (ruled_out_in tests m (reached tests m moves) a) → IsTrue (ruled_out_in tests m (reached tests m (moves ++ more)) a)
+    IsTrue (ruled_out tests m (reached tests m moves) a) → IsTrue (ruled_out tests m (reached tests m (moves ++ more)) a)
 
 -- Whichever of the open readings come, they and the fed ones are a possible outcome.
 -- For a planner: of an open reading nothing is known yet, and there is always an outcome that what is told must be right for.
@@ -36,7 +37,7 @@ OpenMayCome {S} tests =
 -- what the state says of a set M: all that is held is in M, and nothing that is ruled out is
 pub record TrueOf {S : Type 0} (tests : Tests S) (m : Meaning S) (s : State) (M : Set) : Type 0 where
   pub held : Within s.held M
-  pub out : (a : ℕ) → IsTrue (ruled_out_in tests m s a) → M a ≡ false
+  pub out : (a : ℕ) → IsTrue (ruled_out tests m s a) → M a ≡ false
 
 -- After any moves of a run, and for every set of readings with all the fed and none of the closed: each held atom is in its stable model, and no ruled out atom is.
 -- For a crew: what is held or ruled out while readings are still open is right however these turn out, so a shuttle may move on it.
@@ -49,8 +50,8 @@ NothingTakenBack {S} tests =
 -- For a crew: once the last reading is fed or closed, work never stands still with something left to do.
 abbrev pub DueGivesSafe : {S : Type 0} → Tests S → Type 0
 DueGivesSafe {S} tests =
-    (m : Meaning S) → Sound tests m → (held still_open : Set) → Empty still_open →
-    (a : ℕ) → IsTrue (due m held a) → (b : ℕ) × IsTrue (safe tests m held still_open b)
+    (m : Meaning S) → Sound tests m → (s : State) → NothingOpen s →
+    (a : ℕ) → IsTrue (due m s a) → (b : ℕ) × IsTrue (safe tests m s b)
 
 -- With nothing open, whatever is held: after as many sweeps as there are atoms, nothing is due.
 -- For a planner: no more sweeps are ever needed than the book has atoms.
