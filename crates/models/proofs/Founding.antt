@@ -4,7 +4,7 @@ use Rattle.std.proofs.Common.{◌≡◌, ℕ, Bool, true, false, not, ◌&&◌, 
 use mathlib.Core.Path.{fun_ext}
 use Rattle.books.specs.Meaning.{Rule, Meaning, rule_at}
 use Rattle.books.specs.Judged.{Sound, relates}
-use Rattle.models.specs.Sets.{Set, Within, every, some, none}
+use Rattle.models.specs.Sets.{Set, Within, none}
 use Rattle.models.specs.Verdicts.{is_reading, holds, pending, safe, ruled_out}
 use Rattle.models.specs.Stability.{ReadingsOf}
 use Rattle.models.specs.Moves.{Move, feed, close, take, sweep, start, may, after, after_all, may_all, reached, feeds, closes, fed_by}
@@ -17,12 +17,13 @@ use Rattle.models.proofs.Lasting.{Grows, lasts, grows}
 use Rattle.stamps.specs.Orders.{IsLawful, Tests}
 use Rattle.std.specs.Bool.{IsTrue}
 use Rattle.std.proofs.lemmas.Bool.{eqb-true}
+use Rattle.std.specs.List.{list_all, list_any}
 
 module _ {S : Type 0} (tests : Tests S) (m : Meaning S) where
   -- X has the head of each rule whose positives it has and whose negatives are all ruled out
   abbrev pub Obeys : State → Set → Type 0
   Obeys s X =
-      (k : ℕ) (r : Rule) → rule_at m k ≡ Some r → IsTrue (every X r.positives) → IsTrue (every (ruled_out tests m s) r.negatives) → IsTrue (X r.head)
+      (k : ℕ) (r : Rule) → rule_at m k ≡ Some r → IsTrue (list_all X r.positives) → IsTrue (list_all (ruled_out tests m s) r.negatives) → IsTrue (X r.head)
 
   -- what is held comes from the fed readings by rules whose negatives are ruled out
   abbrev pub Grounded : State → Set → Type 0
@@ -40,21 +41,21 @@ abbrev pub Covered : {S : Type 0} → Meaning S → State → Set → Set → Ty
 Covered m s fed closed = (a : ℕ) → IsTrue (is_reading m a) → IsTrue (s.still_open a) ⊎ (IsTrue (fed a) ⊎ IsTrue (closed a))
 
 -- where none of a list is held and nothing due or open is not after one of it, each of it is ruled out
-each_ruled : {S : Type 0} (tests : Tests S) (m : Meaning S) (s : State) (ns : List ℕ) → (IsTrue (some (holds m s) ns) → ⊥) →
-    ((b : ℕ) → IsTrue (pending m s b) → IsTrue (some (relates tests.not_after m b) ns) → ⊥) → IsTrue (every (ruled_out tests m s) ns)
+each_ruled : {S : Type 0} (tests : Tests S) (m : Meaning S) (s : State) (ns : List ℕ) → (IsTrue (list_any (holds m s) ns) → ⊥) →
+    ((b : ℕ) → IsTrue (pending m s b) → IsTrue (list_any (relates tests.not_after m b) ns) → ⊥) → IsTrue (list_all (ruled_out tests m s) ns)
 each_ruled tests m s [] f g = refl
 each_ruled tests m s (n ∷ ns) f g =
-    and_in (ruled_out tests m s n) (every (ruled_out tests m s) ns)
+    and_in (ruled_out tests m s n) (list_all (ruled_out tests m s) ns)
     (ruled_in m s tests n
-    (λ h. f (or_left (holds m s n) (some (holds m s) ns) h))
-    (λ b p r. g b p (or_left (relates tests.not_after m b n) (some (relates tests.not_after m b) ns) r)))
+    (λ h. f (or_left (holds m s n) (list_any (holds m s) ns) h))
+    (λ b p r. g b p (or_left (relates tests.not_after m b n) (list_any (relates tests.not_after m b) ns) r)))
     (each_ruled tests m s ns
-    (λ h. f (or_right (holds m s n) (some (holds m s) ns) h))
-    (λ b p r. g b p (or_right (relates tests.not_after m b n) (some (relates tests.not_after m b) ns) r)))
+    (λ h. f (or_right (holds m s n) (list_any (holds m s) ns) h))
+    (λ b p r. g b p (or_right (relates tests.not_after m b n) (list_any (relates tests.not_after m b) ns) r)))
 
 module _ {S : Type 0} (tests : Tests S) (m : Meaning S) (s : State) where
   -- the negatives of a ready rule without a blocker are ruled out
-  negatives_ruled : (r : Rule) → IsTrue (unblocked m s tests r) → IsTrue (every (ruled_out tests m s) r.negatives)
+  negatives_ruled : (r : Rule) → IsTrue (unblocked m s tests r) → IsTrue (list_all (ruled_out tests m s) r.negatives)
   negatives_ruled r u =
       each_ruled tests m s r.negatives
       (ready_out m s r (unblocked_ready m s tests r u)).negatives

@@ -2,18 +2,19 @@
 use Rattle.std.proofs.Common.{ℕ, ◌<◌, Bool, not, ◌&&◌, ◌⊎◌, length}
 use Rattle.books.specs.Meaning.{Rule, Meaning}
 use Rattle.books.specs.Judged.{relates}
-use Rattle.models.specs.Sets.{Set, State, Within, every, some}
+use Rattle.models.specs.Sets.{Set, State, Within}
 use Rattle.models.specs.Verdicts.{in_book, is_derived, holds, heads_some, ready, due, pending, blocks, blocked, safe, awaited, ruled_out}
 use Rattle.models.proofs.Truth.{and_in, and_left, and_right, or_left, or_right, or_out, not_in, not_out}
 use Rattle.models.proofs.Members.{some_out, below_in, below_out}
 use Rattle.models.proofs.Places.{Headed, place, related_in_book, headed_in, headed_out}
 use Rattle.std.specs.Bool.{IsTrue}
 use Rattle.stamps.specs.Orders.{Tests}
+use Rattle.std.specs.List.{list_all, list_any}
 
 pub record Ready {S : Type 0} (m : Meaning S) (s : State) (r : Rule) : Type 0 where
   pub derived : IsTrue (is_derived m r.head)
-  pub positives : IsTrue (every (holds m s) r.positives)
-  pub negatives : IsTrue (some (holds m s) r.negatives) → ⊥
+  pub positives : IsTrue (list_all (holds m s) r.positives)
+  pub negatives : IsTrue (list_any (holds m s) r.negatives) → ⊥
 
 module _ {S : Type 0} (m : Meaning S) where
   pub holds_in : (s : State) (a : ℕ) → IsTrue (in_book m a) → IsTrue (s.held a) → IsTrue (holds m s a)
@@ -31,7 +32,7 @@ module _ {S : Type 0} (m : Meaning S) where
   pub ready_out : (s : State) (r : Rule) → IsTrue (ready m s r) → Ready m s r
   unfolding ready
   ready_out s r t =
-      let d = is_derived m r.head in let p = every (holds m s) r.positives in let n = some (holds m s) r.negatives in
+      let d = is_derived m r.head in let p = list_all (holds m s) r.positives in let n = list_any (holds m s) r.negatives in
       record {
         derived = and_left d p (and_left (d && p) (not n) t);
         positives = and_right d p (and_left (d && p) (not n) t);
@@ -41,7 +42,7 @@ module _ {S : Type 0} (m : Meaning S) where
   pub ready_in : (s : State) (r : Rule) → Ready m s r → IsTrue (ready m s r)
   unfolding ready
   ready_in s r h =
-      let d = is_derived m r.head in let p = every (holds m s) r.positives in let n = some (holds m s) r.negatives in
+      let d = is_derived m r.head in let p = list_all (holds m s) r.positives in let n = list_any (holds m s) r.negatives in
       and_in (d && p) (not n) (and_in d p h.derived h.positives) (not_in n h.negatives)
 
   pub due_unheld : (s : State) (a : ℕ) → IsTrue (due m s a) → IsTrue (holds m s a) → ⊥
@@ -73,19 +74,19 @@ module _ {S : Type 0} (m : Meaning S) where
     pending_out a = or_out (due m s a) (s.still_open a)
 
     module _ (tests : Tests S) where
-      pub blocked_out : (r : Rule) → IsTrue (blocked tests m s r) → (b : ℕ) × IsTrue (pending m s b) × IsTrue (some (relates tests.not_after m b) r.negatives)
+      pub blocked_out : (r : Rule) → IsTrue (blocked tests m s r) → (b : ℕ) × IsTrue (pending m s b) × IsTrue (list_any (relates tests.not_after m b) r.negatives)
       unfolding blocked blocks
       blocked_out r t =
           let f : (b : ℕ) × (b < length m.atoms) × IsTrue (blocks tests m s r b) = below_out (length m.atoms) (blocks tests m s r) t in
-          let p = pending m s f.0 in let q = some (relates tests.not_after m f.0) r.negatives in
+          let p = pending m s f.0 in let q = list_any (relates tests.not_after m f.0) r.negatives in
           (f.0, and_left p q f.2, and_right p q f.2)
 
-      pub blocked_in : (r : Rule) (b : ℕ) → IsTrue (pending m s b) → IsTrue (some (relates tests.not_after m b) r.negatives) → IsTrue (blocked tests m s r)
+      pub blocked_in : (r : Rule) (b : ℕ) → IsTrue (pending m s b) → IsTrue (list_any (relates tests.not_after m b) r.negatives) → IsTrue (blocked tests m s r)
       unfolding blocked blocks
       blocked_in r b p q =
           let n : (n : ℕ) × IsTrue (relates tests.not_after m b n) = some_out (relates tests.not_after m b) r.negatives q in
           below_in (length m.atoms) (blocks tests m s r) b (place m b (related_in_book m tests.not_after b n.0 n.1))
-          (and_in (pending m s b) (some (relates tests.not_after m b) r.negatives) p q)
+          (and_in (pending m s b) (list_any (relates tests.not_after m b) r.negatives) p q)
 
       -- ready and without a blocker
       abbrev pub unblocked : Rule → Bool

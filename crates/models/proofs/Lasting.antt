@@ -3,7 +3,7 @@
 use Rattle.std.proofs.Common.{◌≡◌, ℕ, not, ◌&&◌, ◌||◌, eqb, ◌⊎◌, List, [], ◌∷◌, Some, subst, inl, inr, ⊎_elim}
 use Rattle.books.specs.Meaning.{Rule, Meaning, rule_at}
 use Rattle.books.specs.Judged.{Sound, relates}
-use Rattle.models.specs.Sets.{Set, Within, every}
+use Rattle.models.specs.Sets.{Set, Within}
 use Rattle.models.specs.Verdicts.{in_book, holds, ready, due, pending, safe, ruled_out}
 use Rattle.models.specs.Moves.{Move, feed, close, take, sweep, may, after, after_all, may_all, decided}
 use Rattle.models.specs.Sets.{State}
@@ -14,6 +14,7 @@ use Rattle.models.proofs.Judging.{Ready, holds_in, holds_there, holds_held, hold
 use Rattle.stamps.specs.Orders.{IsLawful, Tests}
 use Rattle.std.specs.Bool.{IsTrue}
 use Rattle.std.proofs.lemmas.Bool.{eqb-true}
+use Rattle.std.specs.List.{list_all}
 
 -- from one state to a later one: what is held stays, nothing opens, and what is newly held was due or open
 pub record Grows {S : Type 0} (m : Meaning S) (s t : State) : Type 0 where
@@ -46,7 +47,7 @@ module _ {S : Type 0} {tests : Tests S} (laws : IsLawful tests) {m : Meaning S} 
         = one_differs (λ p. IsTrue (relates tests.not_after m p r.head)) (holds m t) (holds m s) r.positives
         (sound.rules k r e).positives now.positives lacks in
         inr (one.0, one.1, newly one.0 one.2 one.3))
-        (either (every (holds m s) r.positives))
+        (either (list_all (holds m s) r.positives))
 
     -- whatever is due or open later, something was due or open before that is not after it
     source : (b : ℕ) → IsTrue (in_book m b) → IsTrue (pending m t b) → (p : ℕ) × IsTrue (relates tests.not_after m p b) × IsTrue (pending m s p)

@@ -2,7 +2,7 @@
 use Rattle.std.proofs.Common.{◌≡◌, ℕ, zero, suc, ◌<◌, ◌≤◌, not, length, Some, subst, ⊎_elim, not-suc-le-zero, arith, refl}
 use Rattle.books.specs.Meaning.{Rule, Meaning, rule_at}
 use Rattle.books.specs.Judged.{Sound, relates}
-use Rattle.models.specs.Sets.{Set, Empty, some, some_below}
+use Rattle.models.specs.Sets.{Set, Empty, some_below}
 use Rattle.models.specs.Verdicts.{in_book, holds, ready, due, pending, blocked, safe, ruled_out}
 use Rattle.models.specs.Moves.{sweep, after, after_all, may_all, sweeps, NothingOpen, NothingDue}
 use Rattle.models.specs.Sets.{State}
@@ -14,6 +14,7 @@ use Rattle.models.proofs.Judging.{holds_in, holds_within, ready_out, due_unheld,
 use Rattle.models.proofs.Lasting.{grows, lasts_all, kept_all}
 use Rattle.stamps.specs.Orders.{IsLawful, Tests}
 use Rattle.std.specs.Bool.{IsTrue}
+use Rattle.std.specs.List.{list_any}
 
 -- a due atom is in the book
 pub due_in_book : {S : Type 0} (m : Meaning S) (s : State) (a : ℕ) → IsTrue (due m s a) → IsTrue (in_book m a)
@@ -31,7 +32,7 @@ module _ {S : Type 0} {tests : Tests S} (laws : IsLawful tests) {m : Meaning S} 
   blocker_before : (s : State) → NothingOpen s → (k : ℕ) (r : Rule) → rule_at m k ≡ Some r → IsTrue (blocked tests m s r) →
       (b : ℕ) × IsTrue (due m s b) × IsTrue (relates tests.before m b r.head)
   blocker_before s shut k r e t =
-      let w : (b : ℕ) × IsTrue (pending m s b) × IsTrue (some (relates tests.not_after m b) r.negatives) = blocked_out m s tests r t in
+      let w : (b : ℕ) × IsTrue (pending m s b) × IsTrue (list_any (relates tests.not_after m b) r.negatives) = blocked_out m s tests r t in
       let n : (n : ℕ) × IsTrue (relates tests.before m n r.head) × IsTrue (relates tests.not_after m w.0 n)
       = some_with (λ n. IsTrue (relates tests.before m n r.head)) (relates tests.not_after m w.0) r.negatives (sound.rules k r e).negatives w.2 in (
         w.0,

@@ -1,9 +1,9 @@
 -- Ticks, as numbers, keep the laws; and what the check accepts is one test that computes.
 use Rattle.std.proofs.Common.{◌≡◌, ℕ, zero, suc, ◌≤◌, Bool, true, false, not, ◌&&◌, leb, List, [], ◌∷◌, length, Some, None, Option, refl, subst, arith}
-use Rattle.std.specs.List.{AllByRecursion}
+use Rattle.std.specs.List.{AllByRecursion, list_all}
 use Rattle.books.specs.Meaning.{Rule, Atom, Meaning, rule_at, reading_of}
 use Rattle.books.specs.Judged.{Sound, SoundRule, relates}
-use Rattle.models.specs.Sets.{Set, every}
+use Rattle.models.specs.Sets.{Set}
 use Rattle.models.specs.Verdicts.{passes, is_derived}
 use Rattle.models.proofs.Places.{book}
 use Rattle.models.proofs.Truth.{and_left, and_right, never}
@@ -17,9 +17,9 @@ use Rattle.models.specs.Examples.{numbers}
 pub ticks : IsLawful numbers
 ticks = tick_lawful (λ n. n)
 
-every_all : (X : Set) (xs : List ℕ) → IsTrue (every X xs) → AllByRecursion (λ a. IsTrue (X a)) xs
+every_all : (X : Set) (xs : List ℕ) → IsTrue (list_all X xs) → AllByRecursion (λ a. IsTrue (X a)) xs
 every_all X [] t = tt
-every_all X (x ∷ xs) t = (and_left (X x) (every X xs) t, every_all X xs (and_right (X x) (every X xs) t))
+every_all X (x ∷ xs) t = (and_left (X x) (list_all X xs) t, every_all X xs (and_right (X x) (list_all X xs) t))
 
 derived_out : (o : Option Bool) → IsTrue (passes not o) → o ≡ Some false
 derived_out None t = never t
@@ -46,7 +46,7 @@ module _ {S : Type 0} (tests : Tests S) (m : Meaning S) where
   few r = leb (length r.positives) 6 && leb (length r.negatives) 6
 
   abbrev pub ordered : Rule → Bool
-  ordered r = every (λ a. relates tests.not_after m a r.head) r.positives && every (λ a. relates tests.before m a r.head) r.negatives
+  ordered r = list_all (λ a. relates tests.not_after m a r.head) r.positives && list_all (λ a. relates tests.before m a r.head) r.negatives
 
   abbrev pub fits : Rule → Bool
   fits r = few r && (is_derived m r.head && ordered r)
@@ -56,8 +56,8 @@ module _ {S : Type 0} (tests : Tests S) (m : Meaning S) where
       let short = and_left (few r) (is_derived m r.head && ordered r) t in
       let rest = and_right (few r) (is_derived m r.head && ordered r) t in
       let order = and_right (is_derived m r.head) (ordered r) rest in
-      let ps = every (λ a. relates tests.not_after m a r.head) r.positives in
-      let ns = every (λ a. relates tests.before m a r.head) r.negatives in
+      let ps = list_all (λ a. relates tests.not_after m a r.head) r.positives in
+      let ns = list_all (λ a. relates tests.before m a r.head) r.negatives in
       record {
         few_positives = leb-true (length r.positives) 6 (and_left (leb (length r.positives) 6) (leb (length r.negatives) 6) short);
         few_negatives = leb-true (length r.negatives) 6 (and_right (leb (length r.positives) 6) (leb (length r.negatives) 6) short);

@@ -2,7 +2,7 @@
 use Rattle.std.proofs.Common.{◌≡◌, ℕ, zero, suc, ◌<◌, Bool, true, false, not, Some, Option, sym, subst, not-suc-le-zero, arith, refl}
 use Rattle.books.specs.Meaning.{Rule, Meaning, rule_at}
 use Rattle.books.specs.Judged.{Sound, relates}
-use Rattle.models.specs.Sets.{Set, Within, Same, every, some}
+use Rattle.models.specs.Sets.{Set, Within, Same}
 use Rattle.models.specs.Verdicts.{passes, in_book, is_derived}
 use Rattle.models.specs.Stability.{ReadingsOf, Stable}
 use Rattle.models.proofs.Truth.{same, never}
@@ -11,6 +11,7 @@ use Rattle.models.proofs.Places.{reading_in_book, derived_in_book, reflexive, tr
 use Rattle.models.proofs.Reducts.{closed_in, closed_out}
 use Rattle.stamps.specs.Orders.{IsLawful, Tests}
 use Rattle.std.specs.Bool.{IsTrue}
+use Rattle.std.specs.List.{list_all, list_any}
 
 -- b, which is asked for only where the test passes
 abbrev given : Bool → Bool → Bool
@@ -48,7 +49,7 @@ module _ {S : Type 0} {tests : Tests S} (laws : IsLawful tests) {m : Meaning S} 
         has : Within R X
         has b t = given_in (relates tests.not_after m b a) (N b) (λ _. stable_n.has b t)
 
-        leads : (k : ℕ) (r : Rule) → rule_at m k ≡ Some r → IsTrue (every X r.positives) → (IsTrue (some M r.negatives) → ⊥) → IsTrue (X r.head)
+        leads : (k : ℕ) (r : Rule) → rule_at m k ≡ Some r → IsTrue (list_all X r.positives) → (IsTrue (list_any M r.negatives) → ⊥) → IsTrue (X r.head)
         leads k r e ps ns =
             given_in (relates tests.not_after m r.head a) (N r.head) (λ below.
             closed_out m N N stable_n.closed k r e

@@ -2,11 +2,12 @@
 use Rattle.std.specs.Prelude.{◌≡◌, ℕ, zero, suc, true, false, cond, List, [], ◌∷◌, ◌++◌, length, Some, nat_eq}
 use Rattle.stamps.specs.Orders.{Tests, tick_tests, route_tests}
 use Rattle.books.specs.Meaning.{Rule, Atom, Meaning}
-use Rattle.models.specs.Sets.{Set, some}
+use Rattle.models.specs.Sets.{Set}
 use Rattle.models.specs.Verdicts.{due, blocks, safe, ruled_out}
 use Rattle.models.specs.Stability.{ReadingsOf, Stable}
 use Rattle.models.specs.Moves.{feed, close, take, sweep, start, may, reached, model_of}
 use Rattle.models.specs.Sets.{State}
+use Rattle.std.specs.List.{list_any}
 
 -- numbers as ticks
 abbrev pub numbers : Tests ℕ
@@ -18,7 +19,7 @@ masks = route_tests (λ n. n)
 
 -- the set of the atoms of a list
 abbrev pub among : List ℕ → Set
-among xs a = some (λ x. nat_eq x a) xs
+among xs a = list_any (λ x. nat_eq x a) xs
 
 -- the numbers below n that are in the set, rising
 abbrev pub listed : ℕ → Set → List ℕ

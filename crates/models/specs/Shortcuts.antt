@@ -2,12 +2,13 @@
 use Rattle.std.specs.Prelude.{◌≡◌, ℕ, Bool, false, not, ◌&&◌, [], ◌∷◌, length, Some}
 use Rattle.books.specs.Meaning.{Rule, Meaning}
 use Rattle.books.specs.Judged.{Sound, relates}
-use Rattle.models.specs.Sets.{Set, State, some, some_below}
+use Rattle.models.specs.Sets.{Set, State, some_below}
 use Rattle.models.specs.Verdicts.{heads_some, ready, due, pending, safe}
 use Rattle.models.specs.Stability.{ReadingsOf, Stable}
 use Rattle.models.specs.Moves.{start, NothingOpen}
 use Rattle.models.specs.Examples.{numbers, among, reads, derives, from}
 use Rattle.std.specs.Bool.{IsTrue}
+use Rattle.std.specs.List.{list_any}
 
 -- which atoms a way to look for blockers would take, of a book in a state
 abbrev pub Shortcut : Type 0
@@ -20,7 +21,7 @@ strictly = safe (record numbers { not_after = numbers.before })
 -- some atom that is due or still open stands to the rule's head, in place of each negative, as the test says
 abbrev pub blocked_by_head : (ℕ → ℕ → Bool) → Meaning ℕ → State → Rule → Bool
 blocked_by_head test m s r =
-    some_below (length m.atoms) (λ b. pending m s b && some (λ n. relates test m b r.head) r.negatives)
+    some_below (length m.atoms) (λ b. pending m s b && list_any (λ n. relates test m b r.head) r.negatives)
 
 -- blockers are compared with the head in place of the negative
 abbrev pub by_head : (ℕ → ℕ → Bool) → Shortcut

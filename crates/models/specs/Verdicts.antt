@@ -3,8 +3,9 @@
 use Rattle.std.specs.Prelude.{Bool, false, not, ◌&&◌, ◌||◌, length, Some, None, Option, ◌==◌, nat_lt}
 use Rattle.books.specs.Meaning.{Rule, Meaning, rule_at, reading_of}
 use Rattle.books.specs.Judged.{relates}
-use Rattle.models.specs.Sets.{Set, State, every, some, some_below}
+use Rattle.models.specs.Sets.{Set, State, some_below}
 use Rattle.stamps.specs.Orders.{Tests}
+use Rattle.std.specs.List.{list_all, list_any}
 
 -- there is something, and it passes the test
 abbrev pub passes : {X : Type 0} → (X → Bool) → Option X → Bool
@@ -33,7 +34,7 @@ heads_some m test a = some_below (length m.rules) (λ k. passes (λ r. (r.head =
 
 -- all its positives are held and none of its negatives is, and its head is in the book and no reading
 unfoldable pub ready : {S : Type 0} → Meaning S → State → Rule → Bool
-ready m s r = is_derived m r.head && every (holds m s) r.positives && not (some (holds m s) r.negatives)
+ready m s r = is_derived m r.head && list_all (holds m s) r.positives && not (list_any (holds m s) r.negatives)
 
 -- the atom is not held and heads some ready rule
 unfoldable pub due : {S : Type 0} → Meaning S → State → Set
@@ -45,7 +46,7 @@ pending m s a = due m s a || s.still_open a
 
 -- the atom is due or still open, and its stamp is not after that of one of the rule's negatives
 unfoldable pub blocks : {S : Type 0} → Tests S → Meaning S → State → Rule → Set
-blocks tests m s r b = pending m s b && some (relates tests.not_after m b) r.negatives
+blocks tests m s r b = pending m s b && list_any (relates tests.not_after m b) r.negatives
 
 -- some atom of the book blocks the rule
 unfoldable pub blocked : {S : Type 0} → Tests S → Meaning S → State → Rule → Bool
