@@ -1,13 +1,13 @@
 -- The check's verdict against what a book is to be.
 use Rattle.std.proofs.Common.{◌≡◌, ℕ, ◌+◌, ◌*◌, ◌<◌, ◌≤◌, Bool, true, false, cond, ◌||◌, ltb, ◌⊎◌, length, Some, None, Option, sym, refl, ap, ◌∙◌, subst, inl, inr, arith, length-append}
 use Rattle.std.specs.List.{slice_get}
-use Rattle.std.specs.Option.{option_map}
+use Rattle.std.specs.Option.{option_map, option_and_then}
 use Rattle.std.proofs.lemmas.Bool.{cases_lt, ltb-false, ltb-true, or_parts, or_cases}
-use Rattle.books.specs.Meaning.{Rule, Atom, Meaning, bind_some, rule_at, literals, stamp_of, reading_of}
+use Rattle.books.specs.Meaning.{Rule, Atom, Meaning, rule_at, literals, stamp_of, reading_of}
 use Rattle.books.specs.Check.{first_below, literal_fault, body_fault, head_fault, rule_fault}
 use Rattle.books.specs.Judged.{Fails, Breaks, rule_of, step_of, of_counts}
 use Rattle.books.specs.declared.fault.CheckFault.{CheckFault}
-use Rattle.books.specs.declared.fault.CheckFault.TheVariants.{TooLarge, BodyTooLong, HeadMissing, HeadIsReading, LiteralMissing, PositiveOutOfOrder, NegativeOutOfOrder, SlotMissing, RuleMissing, SheetTooShort}
+use Rattle.books.specs.declared.fault.CheckFault.TheVariants.{TooLarge, BodyTooLong, HeadMissing, HeadIsReading, LiteralMissing, PositiveOutOfOrder, NegativeOutOfOrder}
 use Rattle.books.proofs.First.{first_at, first_none}
 use Rattle.books.proofs.Places.{slice_get_some, slice_get_none, option_map_some, option_map_none}
 use Rattle.books.proofs.Stamps.{fault_by, AtFault, missing, positive, negative, literal_none, literal_some}
@@ -56,9 +56,6 @@ module _ {S : Type 0} (before not_after : S → S → Bool) (m : Meaning S) wher
       let f = w.2.2.1 in
       let ok = p.ordered w.0 w.2.0 w.2.1 (omega (arith, s, w.1)) f.0 f.1 f.2 f.3 in
       clash (before f.0 f.1) (ok.1 w.2.2.0) f.4
-  unbroken r n p (SlotMissing k l) c at s b = b
-  unbroken r n p (RuleMissing k) c at s b = b
-  unbroken r n p (SheetTooShort k) c at s b = b
 
   -- a rule's outcome: all tests pass, or the fault is so and all tests before it pass
   abbrev pub Outcome : ℕ → Rule → Option CheckFault → Type 0
@@ -70,13 +67,13 @@ module _ {S : Type 0} (before not_after : S → S → Bool) (m : Meaning S) wher
     p = length r.positives
 
     -- literal i + 1 by the list of literals
-    literal_at_lem : (h : S) (i : ℕ) → literal_fault before not_after m k p h i ≡ bind_some (λ a. fault_by before not_after k p h i (stamp_of m a)) (slice_get (literals r) i)
-    literal_at_lem h i = ap (bind_some (λ a. fault_by before not_after k p h i (stamp_of m a))) (ap (bind_some (λ (q : Rule). slice_get (literals q) i)) at)
+    literal_at_lem : (h : S) (i : ℕ) → literal_fault before not_after m k p h i ≡ option_and_then (λ a. fault_by before not_after k p h i (stamp_of m a)) (slice_get (literals r) i)
+    literal_at_lem h i = ap (option_and_then (λ a. fault_by before not_after k p h i (stamp_of m a))) (ap (option_and_then (λ (q : Rule). slice_get (literals q) i)) at)
 
-    found_none : (h : S) (i : ℕ) (o : Option ℕ) → bind_some (λ a. fault_by before not_after k p h i (stamp_of m a)) o ≡ None → (a : ℕ) → o ≡ Some a → fault_by before not_after k p h i (stamp_of m a) ≡ None
-    found_none h i o e a f = sym (ap (bind_some (λ a. fault_by before not_after k p h i (stamp_of m a))) f) ∙ e
+    found_none : (h : S) (i : ℕ) (o : Option ℕ) → option_and_then (λ a. fault_by before not_after k p h i (stamp_of m a)) o ≡ None → (a : ℕ) → o ≡ Some a → fault_by before not_after k p h i (stamp_of m a) ≡ None
+    found_none h i o e a f = sym (ap (option_and_then (λ a. fault_by before not_after k p h i (stamp_of m a))) f) ∙ e
 
-    found_some : (h : S) (i : ℕ) (o : Option ℕ) (f : CheckFault) → bind_some (λ a. fault_by before not_after k p h i (stamp_of m a)) o ≡ Some f → (a : ℕ) × (o ≡ Some a) × (fault_by before not_after k p h i (stamp_of m a) ≡ Some f)
+    found_some : (h : S) (i : ℕ) (o : Option ℕ) (f : CheckFault) → option_and_then (λ a. fault_by before not_after k p h i (stamp_of m a)) o ≡ Some f → (a : ℕ) × (o ≡ Some a) × (fault_by before not_after k p h i (stamp_of m a) ≡ Some f)
     found_some h i None f e = let z : ◌≡◌ {A = ℕ} 0 1 = cc in absurd (omega arith)
     found_some h i (Some a) f e = (a, refl, e)
 
@@ -210,5 +207,5 @@ module _ {S : Type 0} (before not_after : S → S → Bool) (m : Meaning S) wher
   pub judge_rule : (k : ℕ) (r : Rule) → rule_at m k ≡ Some r → Outcome k r (rule_fault before not_after m k)
   judge_rule k r at =
       subst (Outcome k r)
-      (sym (ap (bind_some (λ (q : Rule). cond (ltb 6 (length q.positives) || ltb 6 (length q.negatives)) (Some (BodyTooLong k)) (head_fault before not_after m k (length q.positives) (length q.negatives) (slice_get m.atoms q.head)))) at))
+      (sym (ap (option_and_then (λ (q : Rule). cond (ltb 6 (length q.positives) || ltb 6 (length q.negatives)) (Some (BodyTooLong k)) (head_fault before not_after m k (length q.positives) (length q.negatives) (slice_get m.atoms q.head)))) at))
       (judge_lengths k r at _ refl)

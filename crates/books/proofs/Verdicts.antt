@@ -1,14 +1,14 @@
 -- The check's verdict on a whole book: it accepts exactly the sound ones, and a refusal names the first fault.
 use Rattle.std.proofs.Common.{◌≡◌, ℕ, suc, ◌+◌, ◌-◌, ◌*◌, ◌<◌, ◌≤◌, Bool, true, false, cond, ◌||◌, T, ltb, ◌⊎◌, length, Some, None, Option, Result, sym, refl, ap, ◌∙◌, subst, inl, inr, arith}
 use Rattle.std.specs.List.{slice_get}
-use Rattle.std.specs.Option.{option_map, option_flatten}
+use Rattle.std.specs.Option.{option_map, option_and_then, option_flatten}
 use Rattle.std.proofs.iter.runs.Lists.{nth_left, nth_right}
 use Rattle.std.proofs.lemmas.Bool.{cases_lt, ltb-false, ltb-true, or_parts, or_cases}
-use Rattle.books.specs.Meaning.{Rule, Atom, Meaning, bind_some, rule_at, literals, stamp_of}
+use Rattle.books.specs.Meaning.{Rule, Atom, Meaning, rule_at, literals, stamp_of}
 use Rattle.books.specs.Check.{first_below, head_fault, rule_fault, book_fault, unless}
 use Rattle.books.specs.Judged.{relates, both_pass, SoundRule, Sound, Breaks, Precedes, rule_of, step_of, of_counts, Judged}
 use Rattle.books.specs.declared.fault.CheckFault.{CheckFault}
-use Rattle.books.specs.declared.fault.CheckFault.TheVariants.{TooLarge, BodyTooLong, HeadMissing, HeadIsReading, LiteralMissing, PositiveOutOfOrder, NegativeOutOfOrder, SlotMissing, RuleMissing, SheetTooShort}
+use Rattle.books.specs.declared.fault.CheckFault.TheVariants.{TooLarge, BodyTooLong, HeadMissing, HeadIsReading, LiteralMissing, PositiveOutOfOrder, NegativeOutOfOrder}
 use Rattle.books.specs.declared.fault.Fault.{Fault}
 use Rattle.books.proofs.First.{first_at, first_none}
 use Rattle.books.proofs.Places.{slice_get_some, slice_get_within, all_slice_get, slice_get_all, option_map_some}
@@ -106,9 +106,6 @@ module _ {S : Type 0} (before not_after : S → S → Bool) (m : Meaning S) wher
   broken_where (LiteralMissing k l) b = inr (refl, (b.0, b.1))
   broken_where (PositiveOutOfOrder k l) b = inr (refl, (b.0, b.1))
   broken_where (NegativeOutOfOrder k l) b = inr (refl, (b.0, b.1))
-  broken_where (SlotMissing p l) b = absurd b
-  broken_where (RuleMissing k) b = absurd b
-  broken_where (SheetTooShort n) b = absurd b
 
   -- within the counts, a fault breaks a rule that then does not pass its step
   module _ (atoms : length m.atoms ≤ 1024) (rules : length m.rules ≤ 1024) where
@@ -132,7 +129,7 @@ module _ {S : Type 0} (before not_after : S → S → Bool) (m : Meaning S) wher
   option_flatten_some None r e = let z : ◌≡◌ {A = ℕ} 0 1 = cc in absurd (omega arith)
   option_flatten_some (Some o) r e = ap Some e
 
-  bind_some_lem : {X Y : Type 0} (f : X → Option Y) (o : Option X) (y : Y) → bind_some f o ≡ Some y → (x : X) × (o ≡ Some x)
+  bind_some_lem : {X Y : Type 0} (f : X → Option Y) (o : Option X) (y : Y) → option_and_then f o ≡ Some y → (x : X) × (o ≡ Some x)
   bind_some_lem f None y e = let z : ◌≡◌ {A = ℕ} 0 1 = cc in absurd (omega arith)
   bind_some_lem f (Some x) y e = (x, refl)
 

@@ -1,8 +1,8 @@
 -- The check of a book: which fault is met first, if any.
 use Rattle.std.specs.Prelude.{ℕ, zero, suc, ◌+◌, Bool, cond, ◌||◌, length, Some, None, Ok, Err, Option, Result, nat_lt}
 use Rattle.std.specs.List.{slice_get}
-use Rattle.std.specs.Option.{option_or}
-use Rattle.books.specs.Meaning.{Atom, Meaning, bind_some, rule_at, stamp_of, literal_of}
+use Rattle.std.specs.Option.{option_or, option_map, option_and_then}
+use Rattle.books.specs.Meaning.{Atom, Meaning, rule_at, stamp_of, literal_of}
 use Rattle.books.specs.declared.fault.CheckFault.{CheckFault}
 use Rattle.books.specs.declared.fault.CheckFault.TheVariants.{TooLarge, BodyTooLong, HeadMissing, HeadIsReading, LiteralMissing, PositiveOutOfOrder, NegativeOutOfOrder}
 use Rattle.books.specs.declared.fault.Fault.{Fault}
@@ -21,7 +21,7 @@ stamp_fault fits missing disorder (Some s) = cond (fits s) None (Some disorder)
 -- the fault of literal i + 1 of rule k, which has p positives and whose head has the stamp h
 abbrev pub literal_fault : {S : Type 0} → (S → S → Bool) → (S → S → Bool) → Meaning S → ℕ → ℕ → S → ℕ → Option CheckFault
 literal_fault before not_after m k p h i =
-    bind_some
+    option_and_then
     (λ a. cond (nat_lt i p)
     (stamp_fault (λ s. not_after s h) (LiteralMissing k (i + 1)) (PositiveOutOfOrder k (i + 1)) (stamp_of m a))
     (stamp_fault (λ s. before s h) (LiteralMissing k (i + 1)) (NegativeOutOfOrder k (i + 1)) (stamp_of m a)))
@@ -39,7 +39,7 @@ head_fault before not_after m k p n (Some a) = cond a.reading (Some (HeadIsReadi
 -- the first fault of the rule of number k
 abbrev pub rule_fault : {S : Type 0} → (S → S → Bool) → (S → S → Bool) → Meaning S → ℕ → Option CheckFault
 rule_fault before not_after m k =
-    bind_some
+    option_and_then
     (λ r. cond (nat_lt 6 (length r.positives) || nat_lt 6 (length r.negatives))
     (Some (BodyTooLong k))
     (head_fault before not_after m k (length r.positives) (length r.negatives) (slice_get m.atoms r.head)))
@@ -52,7 +52,11 @@ book_fault before not_after m =
     (Some TooLarge)
     (first_below (length m.rules) (rule_fault before not_after m))
 
--- a call that answers nothing, and is refused where there is a fault
+-- a call that answers nothing, and is refused by the fault, where there is one
+abbrev pub refused_by : {E : Type 0} → Option E → Result (Unit {0}) E
+refused_by None = Ok tt
+refused_by (Some e) = Err e
+
+-- the same, refused by the fault as one of all faults
 abbrev pub unless : Option CheckFault → Result (Unit {0}) Fault
-unless None = Ok tt
-unless (Some f) = Err (Checking f)
+unless fault = refused_by (option_map Checking fault)

@@ -2,9 +2,10 @@
 ghost use Rattle.std.specs.Prelude.{◌≡◌, ◌<◌, ◌≤◌, Some};
 ghost use Rattle.books.specs.Check.{unless, first_below, literal_fault, rule_fault, book_fault};
 ghost use Rattle.books.specs.Judged.{Judged};
-ghost use Rattle.books.specs.Meaning.{positive_count_of, literal_of};
+ghost use Rattle.books.specs.declared.book.Sign.TheVariants.{Positive};
+ghost use Rattle.books.specs.Meaning.{body_count_of, literal_of};
 
-use crate::book::Book;
+use crate::book::{Book, Sign};
 use crate::fault::{CheckFault, Fault};
 use stamps::order::Order;
 
@@ -15,14 +16,15 @@ pub const MAX_RULES: usize = 1024;
 pub const MAX_BODY: usize = 6;
 
 // The atom at `index` among the rule's literals, positives first.
+#[tactic(auto, using(crate::proofs::Literals::literal_positive, crate::proofs::Literals::literal_negative))]
 fn literal<B: Book>(book: &B, rule: usize, positives: usize, index: usize) -> Option<usize>
-    requires { positive_count_of (B.Book.meaning book.now) rule ≡ Some positives }
+    requires { body_count_of (B.Book.meaning book.now) rule Positive ≡ Some positives }
     ensures { result ≡ literal_of (B.Book.meaning book.now) rule index }
 {
     if index < positives {
-        book.positive(rule, index)
+        book.body_atom(rule, Sign::Positive, index)
     } else {
-        book.negative(rule, index - positives)
+        book.body_atom(rule, Sign::Negative, index - positives)
     }
 }
 
@@ -34,7 +36,7 @@ fn check_literal<B: Book>(
     index: usize,
     head: &B::Stamp,
 ) -> Result<(), Fault>
-    requires { (positive_count_of (B.Book.meaning book.now) rule ≡ Some positives) × (index < 12) }
+    requires { (body_count_of (B.Book.meaning book.now) rule Positive ≡ Some positives) × (index < 12) }
     ensures { result ≡ unless (literal_fault B.Stamp.Order.is_before B.Stamp.Order.is_not_after (B.Book.meaning book.now) rule positives head.now index) }
 {
     let Some(atom) = literal(book, rule, positives, index) else {
@@ -65,7 +67,7 @@ fn check_body<B: Book>(
     count: usize,
     head: &B::Stamp,
 ) -> Result<(), Fault>
-    requires { (positive_count_of (B.Book.meaning book.now) rule ≡ Some positives) × (count ≤ 12) }
+    requires { (body_count_of (B.Book.meaning book.now) rule Positive ≡ Some positives) × (count ≤ 12) }
     ensures { result ≡ unless (first_below count (literal_fault B.Stamp.Order.is_before B.Stamp.Order.is_not_after (B.Book.meaning book.now) rule positives head.now)) }
 {
     for index in 0..count {
@@ -80,8 +82,8 @@ pub fn check_rule<B: Book>(book: &B, rule: usize) -> Result<(), Fault>
 {
     let (Some(head), Some(positives), Some(negatives)) = (
         book.head(rule),
-        book.positive_count(rule),
-        book.negative_count(rule),
+        book.body_count(rule, Sign::Positive),
+        book.body_count(rule, Sign::Negative),
     ) else {
         return Ok(());
     };
