@@ -1,5 +1,5 @@
 -- The check of a book: which fault is met first, if any.
-use Rattle.std.specs.Prelude.{ℕ, zero, suc, ◌+◌, Bool, cond, ◌||◌, length, Some, None, Ok, Err, Option, Result, nat_lt}
+use Rattle.std.specs.Prelude.{ℕ, zero, suc, ◌+◌, Bool, cond, ◌||◌, ◌≡◌, ◌<◌, length, Some, None, Ok, Err, Option, Result, nat_lt}
 use Rattle.std.specs.List.{slice_get}
 use Rattle.std.specs.Option.{option_or, option_map, option_and_then}
 use Rattle.books.specs.Meaning.{Atom, Meaning, rule_at, stamp_of, literal_of}
@@ -60,3 +60,7 @@ refused_by (Some e) = Err e
 -- the same, refused by the fault as one of all faults
 abbrev pub unless : Option CheckFault → Result (Unit {0}) Fault
 unless fault = refused_by (option_map Checking fault)
+
+-- each answer at a number below n is refused by what f gives there
+abbrev pub Answers : {E : Type 0} → (ℕ → Result (Unit {0}) E → Type 0) → ℕ → (ℕ → Option E) → Type 0
+Answers {E} post n f = (i : ℕ) (r : Result (Unit {0}) E) → i < n → post i r → r ≡ refused_by (f i)
