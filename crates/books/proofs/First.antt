@@ -2,8 +2,7 @@
 use Rattle.std.proofs.Common.{◌≡◌, ℕ, zero, suc, ◌+◌, ◌<◌, ◌≤◌, cond, ◌||◌, ltb, Some, None, Ok, Err, Option, sym, refl, ap, ◌∙◌, inl, inr, not-suc-le-zero, add-one, arith}
 use Rattle.std.proofs.lemmas.Bool.{cases_lt, le-ltb}
 use Rattle.std.specs.Option.{option_or}
-use Rattle.std.specs.Result.{IsErrAnd}
-use Rattle.books.specs.Check.{first_below, unless, refused_by, Answers}
+use Rattle.books.specs.Check.{first_below, unless, refused_by}
 use Rattle.books.specs.declared.fault.CheckFault.{CheckFault}
 use Rattle.books.specs.declared.fault.Fault.{Fault}
 

@@ -37,7 +37,7 @@ fn check_literal<B: Book>(
     head: &B::Stamp,
 ) -> Result<(), Fault>
     requires { (body_count_of (B.Book.meaning book.now) rule Positive ≡ Some positives) × (index < 12) }
-    ensures { result ≡ unless (literal_fault B.Stamp.Order.is_before B.Stamp.Order.is_not_after (B.Book.meaning book.now) rule positives head.now index) }
+    ensures { result ≡ unless (literal_fault B.Stamp.Order.tests (B.Book.meaning book.now) rule positives head.now index) }
 {
     let Some(atom) = literal(book, rule, positives, index) else {
         return Ok(());
@@ -68,7 +68,7 @@ fn check_body<B: Book>(
     head: &B::Stamp,
 ) -> Result<(), Fault>
     requires { (body_count_of (B.Book.meaning book.now) rule Positive ≡ Some positives) × (count ≤ 12) }
-    ensures { result ≡ unless (first_below count (literal_fault B.Stamp.Order.is_before B.Stamp.Order.is_not_after (B.Book.meaning book.now) rule positives head.now)) }
+    ensures { result ≡ unless (first_below count (literal_fault B.Stamp.Order.tests (B.Book.meaning book.now) rule positives head.now)) }
 {
     for index in 0..count {
         check_literal(book, rule, positives, index, head)?;
@@ -78,7 +78,7 @@ fn check_body<B: Book>(
 
 // One rule number: lengths, head, then the literals. A vacant number passes.
 pub fn check_rule<B: Book>(book: &B, rule: usize) -> Result<(), Fault>
-    ensures { result ≡ unless (rule_fault B.Stamp.Order.is_before B.Stamp.Order.is_not_after (B.Book.meaning book.now) rule) }
+    ensures { result ≡ unless (rule_fault B.Stamp.Order.tests (B.Book.meaning book.now) rule) }
 {
     let (Some(head), Some(positives), Some(negatives)) = (
         book.head(rule),
@@ -101,8 +101,8 @@ pub fn check_rule<B: Book>(book: &B, rule: usize) -> Result<(), Fault>
 
 // Both counts, then the rules by number, up to the first fault.
 pub fn check<B: Book>(book: &B) -> Result<(), Fault>
-    ensures answer { result ≡ unless (book_fault B.Stamp.Order.is_before B.Stamp.Order.is_not_after (B.Book.meaning book.now)) }
-    ensures judged { Judged B.Stamp.Order.is_before B.Stamp.Order.is_not_after (B.Book.meaning book.now) result }
+    ensures answer { result ≡ unless (book_fault B.Stamp.Order.tests (B.Book.meaning book.now)) }
+    ensures judged { Judged B.Stamp.Order.tests (B.Book.meaning book.now) result }
 {
     if book.atom_count() > MAX_ATOMS || book.rule_count() > MAX_RULES {
         return Err(Fault::Checking(CheckFault::TooLarge));

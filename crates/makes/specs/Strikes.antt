@@ -5,6 +5,7 @@ use Rattle.books.specs.Judged.{Sound}
 use Rattle.books.specs.declared.fault.CheckFault.{CheckFault}
 use Rattle.books.specs.declared.fault.CheckFault.TheVariants.{RuleMissing}
 use Rattle.words.specs.Members.{with_number}
+use Rattle.stamps.specs.Orders.{Tests}
 
 -- the rules from number k on, those whose number is in the set made vacant
 abbrev pub strike_from : (ℕ → Bool) → ℕ → List (Option Rule) → List (Option Rule)
@@ -25,8 +26,8 @@ struck_set None words rule = with_number words rule
 struck_set (Some f) words rule = words
 
 -- Atoms and counts are as below, a struck number is vacant, any other is as below, and a book that passes the check still does.
-pub record StandsOver {S : Type 0} (before not_after : S → S → Bool) (struck : ℕ → Bool) (below m : Meaning S) : Type 0 where
+pub record StandsOver {S : Type 0} (tests : Tests S) (struck : ℕ → Bool) (below m : Meaning S) : Type 0 where
   pub atoms : m.atoms ≡ below.atoms
   pub count : length m.rules ≡ length below.rules
   pub rule : (k : ℕ) → rule_at m k ≡ cond (struck k) None (rule_at below k)
-  pub passes : Sound before not_after below → Sound before not_after m
+  pub passes : Sound tests below → Sound tests m

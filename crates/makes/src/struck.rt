@@ -33,7 +33,7 @@ impl<B: Book> Struck<B> {
     // Whether the number is struck.
     pub fn is_struck(&self, rule: usize) -> bool
         ensures answer { result ≡ has_number self.now.words rule }
-        ensures stands { StandsOver B.Stamp.Order.is_before B.Stamp.Order.is_not_after (has_number self.now.words) (B.Book.meaning self.now.below) (struck_meaning (has_number self.now.words) (B.Book.meaning self.now.below)) }
+        ensures stands { StandsOver B.Stamp.Order.tests (has_number self.now.words) (B.Book.meaning self.now.below) (struck_meaning (has_number self.now.words) (B.Book.meaning self.now.below)) }
     {
         has(&self.words, rule)
     }
@@ -43,7 +43,7 @@ impl<B: Book> Struck<B> {
         ensures answer { result ≡ unless (strike_fault (B.Book.meaning self.old.below) rule) }
         ensures below { self.new.below ≡ self.old.below }
         ensures words { self.new.words ≡ struck_set (strike_fault (B.Book.meaning self.old.below) rule) self.old.words rule }
-        ensures stands { result ≡ Ok tt → StandsOver B.Stamp.Order.is_before B.Stamp.Order.is_not_after (λ k. nat_eq k rule) (struck_meaning (has_number self.old.words) (B.Book.meaning self.old.below)) (struck_meaning (has_number self.new.words) (B.Book.meaning self.new.below)) }
+        ensures stands { result ≡ Ok tt → StandsOver B.Stamp.Order.tests (λ k. nat_eq k rule) (struck_meaning (has_number self.old.words) (B.Book.meaning self.old.below)) (struck_meaning (has_number self.new.words) (B.Book.meaning self.new.below)) }
         ensures again { has_number self.old.words rule ≡ true → struck_meaning (has_number self.new.words) (B.Book.meaning self.new.below) ≡ struck_meaning (has_number self.old.words) (B.Book.meaning self.old.below) }
     {
         if rule >= MAX_STRUCK || rule >= self.below.rule_count() {

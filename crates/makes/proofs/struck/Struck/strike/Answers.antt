@@ -17,6 +17,6 @@ returns g c =
       answer = sym (ap unless fine);
       below = refl;
       words = c.add.ensures.after ∙ sym (ap (λ f. struck_set f words rule) fine);
-      stands = λ _. stands_more g.B.Stamp.Order.is_before g.B.Stamp.Order.is_not_after m (has_number words) (has_number c.add.new.words) rule only;
-      again = struck_again g.B.Stamp.Order.is_before g.B.Stamp.Order.is_not_after m (has_number words) (has_number c.add.new.words) rule only;
+      stands = λ _. stands_more g.B.Stamp.Order.tests m (has_number words) (has_number c.add.new.words) rule only;
+      again = struck_again g.B.Stamp.Order.tests m (has_number words) (has_number c.add.new.words) rule only;
     }
