@@ -7,7 +7,7 @@ use Rattle.std.proofs.ByRecursion.{All-from_get_or}
 use Rattle.std.proofs.lemmas.Option.{slice_get-get_or}
 use Rattle.std.proofs.lemmas.Bool.{ltb-false, leb-false, or_parts}
 use Rattle.books.specs.Check.{first_below}
-use Rattle.books.specs.Meaning.{bind_some}
+use Rattle.std.specs.Option.{option_and_then}
 use Rattle.books.specs.declared.fault.CheckFault.{CheckFault}
 use Rattle.books.specs.declared.fault.CheckFault.TheVariants.{TooLarge, SlotMissing}
 use Rattle.books.proofs.First.{first_none}
@@ -33,7 +33,7 @@ test_passes true f e = let z : ◌≡◌ {A = ℕ} 0 1 = cc in absurd (omega ari
 test_passes false f e = refl
 
 module _ (width k : ℕ) (p : Pattern) (fine : pattern_fault width k p ≡ None) where
-  parts : (leb width p.head ≡ false) × (first_below (length (body_items p.positives) + length (body_items p.negatives)) (λ i. bind_some (step_fault width k i) (slice_get (steps p) i)) ≡ None)
+  parts : (leb width p.head ≡ false) × (first_below (length (body_items p.positives) + length (body_items p.negatives)) (λ i. option_and_then (step_fault width k i) (slice_get (steps p) i)) ≡ None)
   parts = both_pass_lem (leb width p.head) (SlotMissing k 0) _ fine
 
   pub head_there : p.head < width
@@ -41,8 +41,8 @@ module _ (width k : ℕ) (p : Pattern) (fine : pattern_fault width k p ≡ None)
 
   slot_there : (i : ℕ) (s : Step) → i < length (body_items p.positives) + length (body_items p.negatives) → slice_get (steps p) i ≡ Some s → s.slot < width
   slot_there i s l e =
-      let none = first_none (λ i. bind_some (step_fault width k i) (slice_get (steps p) i)) _ parts.1 i l in
-      let test = test_passes (leb width s.slot || ltb 3 s.back) (SlotMissing k (i + 1)) (sym (ap (bind_some (step_fault width k i)) e) ∙ none) in
+      let none = first_none (λ i. option_and_then (step_fault width k i) (slice_get (steps p) i)) _ parts.1 i l in
+      let test = test_passes (leb width s.slot || ltb 3 s.back) (SlotMissing k (i + 1)) (sym (ap (option_and_then (step_fault width k i)) e) ∙ none) in
       leb-false width s.slot (or_parts (leb width s.slot) (ltb 3 s.back) test).0
 
   pub positives_there : AllByRecursion (λ s. s.slot < width) (body_items p.positives)
@@ -56,7 +56,7 @@ module _ (width k : ℕ) (p : Pattern) (fine : pattern_fault width k p ≡ None)
       (λ i l. slot_there (length (body_items p.positives) + i) (get_or (body_items p.negatives) i no_step) (omega arith) (nth_right (body_items p.positives) (body_items p.negatives) i ∙ slice_get-get_or (body_items p.negatives) i no_step l))
 
 module _ (slots : List Slot) (ticks : ℕ) (patterns : List Pattern) (made : T (is_none (making_fault slots ticks patterns))) where
-  counts : ((ltb 1024 (length slots * ticks) || ltb 1024 (length patterns * ticks)) ≡ false) × (first_below (length patterns) (λ k. bind_some (pattern_fault (length slots) k) (slice_get patterns k)) ≡ None)
+  counts : ((ltb 1024 (length slots * ticks) || ltb 1024 (length patterns * ticks)) ≡ false) × (first_below (length patterns) (λ k. option_and_then (pattern_fault (length slots) k) (slice_get patterns k)) ≡ None)
   counts = both_pass_lem (ltb 1024 (length slots * ticks) || ltb 1024 (length patterns * ticks)) TooLarge _ (none_of (making_fault slots ticks patterns) made)
 
   pub few_atoms_lem : length slots * ticks ≤ 1024
@@ -67,5 +67,5 @@ module _ (slots : List Slot) (ticks : ℕ) (patterns : List Pattern) (made : T (
 
   pub pattern_fine : (k : ℕ) (p : Pattern) → slice_get patterns k ≡ Some p → pattern_fault (length slots) k p ≡ None
   pattern_fine k p e =
-      sym (ap (bind_some (pattern_fault (length slots) k)) e)
-      ∙ first_none (λ k. bind_some (pattern_fault (length slots) k) (slice_get patterns k)) (length patterns) counts.1 k (slice_get_some patterns k p e)
+      sym (ap (option_and_then (pattern_fault (length slots) k)) e)
+      ∙ first_none (λ k. option_and_then (pattern_fault (length slots) k) (slice_get patterns k)) (length patterns) counts.1 k (slice_get_some patterns k p e)

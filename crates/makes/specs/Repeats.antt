@@ -4,7 +4,8 @@ use Rattle.std.specs.List.{slice_get}
 use Rattle.std.specs.Bool.{then_some}
 use Rattle.stamps.specs.declared.then.Then.{Then}
 use Rattle.stamps.specs.declared.tick.Tick.{Tick}
-use Rattle.books.specs.Meaning.{Rule, Atom, Meaning, bind_some}
+use Rattle.std.specs.Option.{option_and_then}
+use Rattle.books.specs.Meaning.{Rule, Atom, Meaning}
 use Rattle.books.specs.Check.{first_below}
 use Rattle.books.specs.declared.fault.CheckFault.{CheckFault}
 use Rattle.books.specs.declared.fault.CheckFault.TheVariants.{TooLarge, SlotMissing}
@@ -53,13 +54,13 @@ step_fault width k i s = then_some (nat_le width s.slot || nat_lt 3 s.back) (Slo
 abbrev pub pattern_fault : ℕ → ℕ → Pattern → Option CheckFault
 pattern_fault width k p =
     cond (nat_le width p.head) (Some (SlotMissing k 0))
-    (first_below (length (body_items p.positives) + length (body_items p.negatives)) (λ i. bind_some (step_fault width k i) (slice_get (steps p) i)))
+    (first_below (length (body_items p.positives) + length (body_items p.negatives)) (λ i. option_and_then (step_fault width k i) (slice_get (steps p) i)))
 
 -- why a repeating book is not made: too many atoms or rule numbers, then the first pattern that is at fault
 abbrev pub making_fault : List Slot → ℕ → List Pattern → Option CheckFault
 making_fault slots ticks patterns =
     cond (nat_lt 1024 (length slots * ticks) || nat_lt 1024 (length patterns * ticks)) (Some TooLarge)
-    (first_below (length patterns) (λ k. bind_some (pattern_fault (length slots) k) (slice_get patterns k)))
+    (first_below (length patterns) (λ k. option_and_then (pattern_fault (length slots) k) (slice_get patterns k)))
 
 -- what a book has after a making: what was asked for, or what it had before where that is refused
 abbrev pub made_of : {X : Type 0} → Option CheckFault → X → X → X

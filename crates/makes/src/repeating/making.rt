@@ -2,7 +2,7 @@
 ghost use Rattle.std.specs.Prelude.{◌≡◌, ◌*◌, ◌<◌, ◌≤◌, [], length, nat_le};
 ghost use Rattle.std.specs.List.{slice_get};
 ghost use Rattle.books.specs.Check.{first_below, unless};
-ghost use Rattle.books.specs.Meaning.{bind_some};
+ghost use Rattle.std.specs.Option.{option_and_then};
 ghost use Rattle.makes.specs.Bodies.{body_items};
 ghost use Rattle.makes.specs.Repeats.{step_fault, steps, pattern_fault, making_fault, made_of, repeating_meaning};
 
@@ -36,7 +36,7 @@ fn step_at(pattern: &Pattern, index: usize) -> Option<Step>
 // One step: its slot is there, and it goes at most 3 ticks back.
 fn check_step(pattern: &Pattern, width: usize, number: usize, index: usize) -> Result<(), Fault>
     requires { index < 12 }
-    ensures { result ≡ unless (bind_some (step_fault width number index) (slice_get (steps pattern.now) index)) }
+    ensures { result ≡ unless (option_and_then (step_fault width number index) (slice_get (steps pattern.now) index)) }
 {
     let Some(step) = step_at(pattern, index) else {
         return Ok(());
@@ -54,7 +54,7 @@ fn check_step(pattern: &Pattern, width: usize, number: usize, index: usize) -> R
 // The first `count` steps of a pattern, up to the first fault.
 fn check_steps(pattern: &Pattern, width: usize, number: usize, count: usize) -> Result<(), Fault>
     requires { count ≤ 12 }
-    ensures { result ≡ unless (first_below count (λ i. bind_some (step_fault width number i) (slice_get (steps pattern.now) i))) }
+    ensures { result ≡ unless (first_below count (λ i. option_and_then (step_fault width number i) (slice_get (steps pattern.now) i))) }
 {
     for index in 0..count {
         check_step(pattern, width, number, index)?;
@@ -82,7 +82,7 @@ fn check_pattern(pattern: &Pattern, width: usize, number: usize) -> Result<(), F
 
 // The patterns in order, up to the first fault.
 fn check_patterns(patterns: &[Pattern], width: usize) -> Result<(), Fault>
-    ensures { result ≡ unless (first_below (length patterns.now) (λ k. bind_some (pattern_fault width k) (slice_get patterns.now k))) }
+    ensures { result ≡ unless (first_below (length patterns.now) (λ k. option_and_then (pattern_fault width k) (slice_get patterns.now k))) }
 {
     for (number, pattern) in patterns.iter().enumerate() {
         check_pattern(pattern, width, number)?;

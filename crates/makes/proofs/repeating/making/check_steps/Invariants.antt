@@ -1,10 +1,10 @@
 use Rattle.std.proofs.Common.{◌≡◌, None}
 use Rattle.std.specs.List.{slice_get}
 use Rattle.books.specs.Check.{first_below}
-use Rattle.books.specs.Meaning.{bind_some}
+use Rattle.std.specs.Option.{option_and_then}
 use Rattle.makes.specs.Repeats.{step_fault, steps}
 use Rattle.makes.proofs.repeating.making.check_steps.Given as goal
 
 -- nothing is at fault among the steps passed
 abbrev pub invariant-loop-index : goal.invariant-loop-index
-invariant-loop-index l = first_below l.index (λ i. bind_some (step_fault l.width l.number i) (slice_get (steps l.pattern) i)) ≡ None
+invariant-loop-index l = first_below l.index (λ i. option_and_then (step_fault l.width l.number i) (slice_get (steps l.pattern) i)) ≡ None
