@@ -1,6 +1,6 @@
 -- A book that repeats its slots and its pattern rules every tick.
-use Rattle.std.specs.Prelude.{ℕ, zero, suc, ◌+◌, ◌-◌, ◌*◌, Bool, true, false, cond, ◌&&◌, ◌||◌, List, [], ◌∷◌, ◌++◌, map, length, Some, None, Option, nat_le, nat_lt}
-use Rattle.std.specs.List.{slice_get}
+use Rattle.std.specs.Prelude.{ℕ, zero, suc, ◌+◌, ◌-◌, ◌*◌, Bool, true, false, cond, ◌&&◌, ◌||◌, List, [], ◌++◌, map, length, Some, None, Option, nat_le, nat_lt}
+use Rattle.std.specs.List.{slice_get, list_all}
 use Rattle.std.specs.Bool.{then_some}
 use Rattle.stamps.specs.declared.then.Then.{Then}
 use Rattle.stamps.specs.declared.tick.Tick.{Tick}
@@ -25,8 +25,7 @@ slot_atom t s = record { stamp = record { first = record { 0 = t }; second = rec
 
 -- none of the steps from tick t falls before tick 0
 abbrev pub started_by : ℕ → List Step → Bool
-started_by t [] = true
-started_by t (s ∷ rest) = nat_le s.back t && started_by t rest
+started_by t = list_all (λ s. nat_le s.back t)
 
 -- the atom of a step from tick t, with so many slots
 abbrev pub atom_back : ℕ → ℕ → Step → ℕ

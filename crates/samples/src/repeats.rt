@@ -1,7 +1,7 @@
 // Tests of the repeating and the struck book.
 use crate::checks::{refused, told};
 use books::book::Book;
-use makes::body::Body;
+use makes::body::{Body, TooLong};
 use makes::patterns::{Pattern, Slot, Step};
 use makes::repeating::Repeating;
 use makes::struck::Struck;
@@ -13,17 +13,11 @@ fn step(slot: usize, back: usize) -> Step {
     Step { slot, back }
 }
 
-// A list has more than six steps.
-#[derive(Debug, Drop)]
-struct TooLong;
-
 fn pattern(head: usize, positives: &[Step], negatives: &[Step]) -> Result<Pattern, TooLong> {
-    let positives = Body::of(positives).ok_or(TooLong)?;
-    let negatives = Body::of(negatives).ok_or(TooLong)?;
     Ok(Pattern {
         head,
-        positives,
-        negatives,
+        positives: Body::of(positives)?,
+        negatives: Body::of(negatives)?,
     })
 }
 
