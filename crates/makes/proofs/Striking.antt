@@ -26,6 +26,9 @@ slice_get-strike_from struck k (r ∷ rs) (suc i) =
 pub struck_rule : {S : Type 0} (struck : ℕ → Bool) (m : Meaning S) (k : ℕ) → rule_at (struck_meaning struck m) k ≡ cond (struck k) None (rule_at m k)
 struck_rule struck m k = let at : 0 + k ≡ k = omega arith in slice_get-strike_from struck 0 m.rules k ∙ ap (λ n. cond (struck n) None (rule_at m k)) at
 
+pub struck_length : {S : Type 0} (struck : ℕ → Bool) (m : Meaning S) → length (struck_meaning struck m).rules ≡ length m.rules
+struck_length struck m = length-strike_from struck 0 m.rules
+
 pub struck_gone : {S : Type 0} (struck : ℕ → Bool) (m : Meaning S) (k : ℕ) → true ≡ struck k → rule_at (struck_meaning struck m) k ≡ None
 struck_gone struck m k e = struck_rule struck m k ∙ ap (λ b. cond b None (rule_at m k)) (sym e)
 

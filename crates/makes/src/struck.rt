@@ -54,6 +54,7 @@ impl<B: Book> Struck<B> {
     }
 }
 
+#[tactic(auto, using(crate::proofs::Striking::struck_rule, crate::proofs::Striking::struck_length))]
 impl<B: Book> Book for Struck<B> {
     type Stamp = B::Stamp;
 
@@ -76,42 +77,22 @@ impl<B: Book> Book for Struck<B> {
     }
 
     fn head(&self, rule: usize) -> Option<usize> {
-        if has(&self.words, rule) {
-            None
-        } else {
-            self.below.head(rule)
-        }
+        self.below.head(rule).filter(|_| !has(&self.words, rule))
     }
 
     fn positive_count(&self, rule: usize) -> Option<usize> {
-        if has(&self.words, rule) {
-            None
-        } else {
-            self.below.positive_count(rule)
-        }
+        self.below.positive_count(rule).filter(|_| !has(&self.words, rule))
     }
 
     fn negative_count(&self, rule: usize) -> Option<usize> {
-        if has(&self.words, rule) {
-            None
-        } else {
-            self.below.negative_count(rule)
-        }
+        self.below.negative_count(rule).filter(|_| !has(&self.words, rule))
     }
 
     fn positive(&self, rule: usize, i: usize) -> Option<usize> {
-        if has(&self.words, rule) {
-            None
-        } else {
-            self.below.positive(rule, i)
-        }
+        self.below.positive(rule, i).filter(|_| !has(&self.words, rule))
     }
 
     fn negative(&self, rule: usize, i: usize) -> Option<usize> {
-        if has(&self.words, rule) {
-            None
-        } else {
-            self.below.negative(rule, i)
-        }
+        self.below.negative(rule, i).filter(|_| !has(&self.words, rule))
     }
 }
