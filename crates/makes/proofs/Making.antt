@@ -1,5 +1,5 @@
 -- What is known of a repeating book that was made.
-use Rattle.std.proofs.Common.{◌≡◌, ℕ, ◌+◌, ◌*◌, ◌<◌, ◌≤◌, Bool, true, false, cond, ◌||◌, T, ltb, leb, List, length, get_or, Some, None, Option, sym, refl, ap, ◌∙◌, arith}
+use Rattle.std.proofs.Common.{◌≡◌, ℕ, ◌+◌, ◌*◌, ◌<◌, ◌≤◌, Bool, true, false, cond, ◌||◌, ltb, leb, List, length, get_or, Some, None, Option, sym, refl, ap, ◌∙◌, arith}
 use Rattle.std.specs.List.{slice_get, AllByRecursion}
 use Rattle.std.specs.Bool.{then_some}
 use Rattle.std.proofs.iter.runs.Lists.{nth_left, nth_right}
@@ -13,15 +13,11 @@ use Rattle.books.specs.declared.fault.CheckFault.TheVariants.{TooLarge, SlotMiss
 use Rattle.books.proofs.First.{first_none}
 use Rattle.books.proofs.Places.{slice_get_some}
 use Rattle.makes.specs.Bodies.{body_items}
-use Rattle.makes.specs.Repeats.{is_none, steps, step_fault, pattern_fault, making_fault}
+use Rattle.makes.specs.Repeats.{steps, step_fault, pattern_fault, making_fault}
 use Rattle.makes.specs.declared.patterns.Slot.{Slot}
 use Rattle.makes.specs.declared.patterns.Step.{Step}
 use Rattle.makes.specs.declared.patterns.Pattern.{Pattern}
 use Rattle.makes.proofs.Instances.{no_step}
-
-none_of : {X : Type 0} (o : Option X) → T (is_none o) → o ≡ None
-none_of None t = refl
-none_of (Some x) t = absurd t
 
 -- a test that gives a fault, and what comes after it, have both passed
 both_pass_lem : (b : Bool) (f : CheckFault) (o : Option CheckFault) → cond b (Some f) o ≡ None → (b ≡ false) × (o ≡ None)
@@ -55,9 +51,9 @@ module _ (width k : ℕ) (p : Pattern) (fine : pattern_fault width k p ≡ None)
       All-from_get_or (λ (s : Step). s.slot < width) (body_items p.negatives) no_step
       (λ i l. slot_there (length (body_items p.positives) + i) (get_or (body_items p.negatives) i no_step) (omega arith) (nth_right (body_items p.positives) (body_items p.negatives) i ∙ slice_get-get_or (body_items p.negatives) i no_step l))
 
-module _ (slots : List Slot) (ticks : ℕ) (patterns : List Pattern) (made : T (is_none (making_fault slots ticks patterns))) where
+module _ (slots : List Slot) (ticks : ℕ) (patterns : List Pattern) (made : making_fault slots ticks patterns ≡ None) where
   counts : ((ltb 1024 (length slots * ticks) || ltb 1024 (length patterns * ticks)) ≡ false) × (first_below (length patterns) (λ k. bind_some (pattern_fault (length slots) k) (slice_get patterns k)) ≡ None)
-  counts = both_pass_lem (ltb 1024 (length slots * ticks) || ltb 1024 (length patterns * ticks)) TooLarge _ (none_of (making_fault slots ticks patterns) made)
+  counts = both_pass_lem (ltb 1024 (length slots * ticks) || ltb 1024 (length patterns * ticks)) TooLarge _ made
 
   pub few_atoms_lem : length slots * ticks ≤ 1024
   few_atoms_lem = ltb-false 1024 (length slots * ticks) (or_parts (ltb 1024 (length slots * ticks)) (ltb 1024 (length patterns * ticks)) counts.0).0

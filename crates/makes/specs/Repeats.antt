@@ -59,13 +59,3 @@ abbrev pub making_fault : List Slot → ℕ → List Pattern → Option CheckFau
 making_fault slots ticks patterns =
     cond (nat_lt 1024 (length slots * ticks) || nat_lt 1024 (length patterns * ticks)) (Some TooLarge)
     (first_below (length patterns) (λ k. bind_some (pattern_fault (length slots) k) (slice_get patterns k)))
-
--- what a book has after a making: what was asked for, or what it had before where that is refused
-abbrev pub made_of : {X : Type 0} → Option CheckFault → X → X → X
-made_of None asked before = asked
-made_of (Some f) asked before = before
-
--- there is none
-abbrev pub is_none : {X : Type 0} → Option X → Bool
-is_none None = true
-is_none (Some x) = false

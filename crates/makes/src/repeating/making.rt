@@ -1,10 +1,10 @@
 // Making a repeating book, with its limits.
-ghost use Rattle.std.specs.Prelude.{◌≡◌, ◌*◌, ◌<◌, ◌≤◌, [], length, nat_le};
+ghost use Rattle.std.specs.Prelude.{◌≡◌, ◌*◌, ◌<◌, ◌≤◌, [], length, nat_le, Err, None, OnOk, IfErr, IfOk};
 ghost use Rattle.std.specs.List.{slice_get};
 ghost use Rattle.books.specs.Check.{first_below, unless};
 ghost use Rattle.books.specs.Meaning.{bind_some};
 ghost use Rattle.makes.specs.Bodies.{body_items};
-ghost use Rattle.makes.specs.Repeats.{step_fault, steps, pattern_fault, making_fault, made_of, repeating_meaning};
+ghost use Rattle.makes.specs.Repeats.{step_fault, steps, pattern_fault, making_fault, repeating_meaning};
 
 use crate::patterns::{Pattern, Slot, Step};
 use crate::repeating::Repeating;
@@ -15,10 +15,8 @@ use books::fault::{CheckFault, Fault};
 fn is_within(a: usize, b: usize) -> bool
     ensures { result ≡ nat_le (a * b) 1024 }
 {
-    match a.checked_mul(b) {
-        Some(product) => product <= MAX_ATOMS,
-        None => false,
-    }
+    a.checked_mul(b)
+        .is_some_and(|product| product <= MAX_ATOMS)
 }
 
 // Step `index` of a pattern, positives first.
@@ -102,28 +100,27 @@ impl<'a> Repeating<'a> {
         }
     }
 
-    // Makes this the book of these tables over so many ticks; a refusal leaves it as it was.
+    // The book of these tables over so many ticks.
     pub fn make(
-        &mut self,
         slots: &'a [Slot],
         ticks: usize,
         patterns: &'a [Pattern],
-    ) -> Result<(), Fault>
-        ensures answer { result ≡ unless (making_fault slots.now ticks patterns.now) }
-        ensures slots { self.new.slots.now ≡ made_of (making_fault slots.now ticks patterns.now) slots.now self.old.slots.now }
-        ensures ticks { self.new.ticks ≡ made_of (making_fault slots.now ticks patterns.now) ticks self.old.ticks }
-        ensures patterns { self.new.patterns.now ≡ made_of (making_fault slots.now ticks patterns.now) patterns.now self.old.patterns.now }
-        ensures meaning { repeating_meaning self.new.slots.now self.new.ticks self.new.patterns.now ≡ made_of (making_fault slots.now ticks patterns.now) (repeating_meaning slots.now ticks patterns.now) (repeating_meaning self.old.slots.now self.old.ticks self.old.patterns.now) }
+    ) -> Result<Repeating<'a>, Fault>
+        ensures made { OnOk result (making_fault slots.now ticks patterns.now ≡ None) }
+        ensures refused { IfErr result (λ fault. unless (making_fault slots.now ticks patterns.now) ≡ Err fault) }
+        ensures slots { IfOk result (λ book. book.slots.now ≡ slots.now) }
+        ensures ticks { IfOk result (λ book. book.ticks ≡ ticks) }
+        ensures patterns { IfOk result (λ book. book.patterns.now ≡ patterns.now) }
+        ensures meaning { IfOk result (λ book. repeating_meaning book.slots.now book.ticks book.patterns.now ≡ repeating_meaning slots.now ticks patterns.now) }
     {
         if !is_within(slots.len(), ticks) || !is_within(patterns.len(), ticks) {
             return Err(Fault::Checking(CheckFault::TooLarge));
         }
         check_patterns(patterns, slots.len())?;
-        *self = Repeating {
+        Ok(Repeating {
             slots,
             ticks,
             patterns,
-        };
-        Ok(())
+        })
     }
 }
