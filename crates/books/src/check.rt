@@ -2,9 +2,10 @@
 ghost use Rattle.std.specs.Prelude.{◌≡◌, ◌<◌, ◌≤◌, Some};
 ghost use Rattle.books.specs.Check.{unless, first_below, literal_fault, rule_fault, book_fault};
 ghost use Rattle.books.specs.Judged.{Judged};
-ghost use Rattle.books.specs.Meaning.{positive_count_of, literal_of};
+ghost use Rattle.books.specs.declared.book.Sign.TheVariants.{Positive};
+ghost use Rattle.books.specs.Meaning.{body_count_of, literal_of};
 
-use crate::book::Book;
+use crate::book::{Book, Sign};
 use crate::fault::{CheckFault, Fault};
 use stamps::order::Order;
 
@@ -15,14 +16,15 @@ pub const MAX_RULES: usize = 1024;
 pub const MAX_BODY: usize = 6;
 
 // The atom at `index` among the rule's literals, positives first.
+#[tactic(auto, using(crate::proofs::Literals::literal_positive, crate::proofs::Literals::literal_negative))]
 fn literal<B: Book>(book: &B, rule: usize, positives: usize, index: usize) -> Option<usize>
-    requires { positive_count_of (B.Book.meaning book.now) rule ≡ Some positives }
+    requires { body_count_of (B.Book.meaning book.now) rule Positive ≡ Some positives }
     ensures { result ≡ literal_of (B.Book.meaning book.now) rule index }
 {
     if index < positives {
-        book.positive(rule, index)
+        book.body_atom(rule, Sign::Positive, index)
     } else {
-        book.negative(rule, index - positives)
+        book.body_atom(rule, Sign::Negative, index - positives)
     }
 }
 
@@ -34,8 +36,8 @@ fn check_literal<B: Book>(
     index: usize,
     head: &B::Stamp,
 ) -> Result<(), Fault>
-    requires { (positive_count_of (B.Book.meaning book.now) rule ≡ Some positives) × (index < 12) }
-    ensures { result ≡ unless (literal_fault B.Stamp.Order.is_before B.Stamp.Order.is_not_after (B.Book.meaning book.now) rule positives head.now index) }
+    requires { (body_count_of (B.Book.meaning book.now) rule Positive ≡ Some positives) × (index < 12) }
+    ensures { result ≡ unless (literal_fault B.Stamp.Order.tests (B.Book.meaning book.now) rule positives head.now index) }
 {
     let Some(atom) = literal(book, rule, positives, index) else {
         return Ok(());
@@ -65,8 +67,8 @@ fn check_body<B: Book>(
     count: usize,
     head: &B::Stamp,
 ) -> Result<(), Fault>
-    requires { (positive_count_of (B.Book.meaning book.now) rule ≡ Some positives) × (count ≤ 12) }
-    ensures { result ≡ unless (first_below count (literal_fault B.Stamp.Order.is_before B.Stamp.Order.is_not_after (B.Book.meaning book.now) rule positives head.now)) }
+    requires { (body_count_of (B.Book.meaning book.now) rule Positive ≡ Some positives) × (count ≤ 12) }
+    ensures { result ≡ unless (first_below count (literal_fault B.Stamp.Order.tests (B.Book.meaning book.now) rule positives head.now)) }
 {
     for index in 0..count {
         check_literal(book, rule, positives, index, head)?;
@@ -76,12 +78,12 @@ fn check_body<B: Book>(
 
 // One rule number: lengths, head, then the literals. A vacant number passes.
 pub fn check_rule<B: Book>(book: &B, rule: usize) -> Result<(), Fault>
-    ensures { result ≡ unless (rule_fault B.Stamp.Order.is_before B.Stamp.Order.is_not_after (B.Book.meaning book.now) rule) }
+    ensures { result ≡ unless (rule_fault B.Stamp.Order.tests (B.Book.meaning book.now) rule) }
 {
     let (Some(head), Some(positives), Some(negatives)) = (
         book.head(rule),
-        book.positive_count(rule),
-        book.negative_count(rule),
+        book.body_count(rule, Sign::Positive),
+        book.body_count(rule, Sign::Negative),
     ) else {
         return Ok(());
     };
@@ -99,8 +101,8 @@ pub fn check_rule<B: Book>(book: &B, rule: usize) -> Result<(), Fault>
 
 // Both counts, then the rules by number, up to the first fault.
 pub fn check<B: Book>(book: &B) -> Result<(), Fault>
-    ensures answer { result ≡ unless (book_fault B.Stamp.Order.is_before B.Stamp.Order.is_not_after (B.Book.meaning book.now)) }
-    ensures judged { Judged B.Stamp.Order.is_before B.Stamp.Order.is_not_after (B.Book.meaning book.now) result }
+    ensures answer { result ≡ unless (book_fault B.Stamp.Order.tests (B.Book.meaning book.now)) }
+    ensures judged { Judged B.Stamp.Order.tests (B.Book.meaning book.now) result }
 {
     if book.atom_count() > MAX_ATOMS || book.rule_count() > MAX_RULES {
         return Err(Fault::Checking(CheckFault::TooLarge));

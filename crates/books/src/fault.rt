@@ -1,6 +1,7 @@
 // Refusals: what was refused, with its layer, number and values.
 ghost use Rattle.std.specs.Prelude.{◌≡◌};
 ghost use Rattle.books.specs.Faults.{refusal_of};
+ghost use Rattle.books.specs.declared.fault.Fault.TheVariants.{Reading, Checking, Making};
 
 use std::fmt;
 
@@ -38,7 +39,7 @@ pub enum ReadFault {
     AtomMissing { rule: usize, literal: usize },
 }
 
-// What the check refuses, and the making, striking and writing of books. Literals count from 1, positives first.
+// What the check refuses. Literals count from 1, positives first.
 #[derive(Clone, Copy, PartialEq, Eq, Debug)]
 pub enum CheckFault {
     TooLarge,
@@ -48,8 +49,14 @@ pub enum CheckFault {
     LiteralMissing { rule: usize, literal: usize },
     PositiveOutOfOrder { rule: usize, literal: usize },
     NegativeOutOfOrder { rule: usize, literal: usize },
+}
+
+// What making, striking and writing a book refuse besides. Literals count from 1; a pattern's head is literal 0.
+#[derive(Clone, Copy, PartialEq, Eq, Debug)]
+pub enum MakeFault {
     SlotMissing { pattern: usize, literal: usize },
     RuleMissing { rule: usize },
+    // The bytes that the text needs.
     SheetTooShort { needed: usize },
 }
 
@@ -58,6 +65,32 @@ pub enum CheckFault {
 pub enum Fault {
     Reading(ReadFault),
     Checking(CheckFault),
+    // Told under the checking layer.
+    Making(MakeFault),
+}
+
+impl From<ReadFault> for Fault {
+    ghost from_gives = { λ fault all. all ≡ Reading fault };
+
+    fn from(fault: ReadFault) -> Fault {
+        Fault::Reading(fault)
+    }
+}
+
+impl From<CheckFault> for Fault {
+    ghost from_gives = { λ fault all. all ≡ Checking fault };
+
+    fn from(fault: CheckFault) -> Fault {
+        Fault::Checking(fault)
+    }
+}
+
+impl From<MakeFault> for Fault {
+    ghost from_gives = { λ fault all. all ≡ Making fault };
+
+    fn from(fault: MakeFault) -> Fault {
+        Fault::Making(fault)
+    }
 }
 
 impl Fault {
@@ -101,12 +134,21 @@ impl Fault {
                         7,
                         Values::RuleLiteral(rule, literal),
                     ),
-                    CheckFault::SlotMissing { pattern, literal } => (
+                };
+                Refusal {
+                    layer: Layer::Checking,
+                    number,
+                    values,
+                }
+            }
+            Fault::Making(fault) => {
+                let (number, values) = match *fault {
+                    MakeFault::SlotMissing { pattern, literal } => (
                         4,
                         Values::RuleLiteral(pattern, literal),
                     ),
-                    CheckFault::RuleMissing { rule } => (4, Values::RuleLiteral(rule, 0)),
-                    CheckFault::SheetTooShort { needed } => (17, Values::One(needed)),
+                    MakeFault::RuleMissing { rule } => (4, Values::RuleLiteral(rule, 0)),
+                    MakeFault::SheetTooShort { needed } => (17, Values::One(needed)),
                 };
                 Refusal {
                     layer: Layer::Checking,

@@ -6,6 +6,7 @@ use Rattle.std.proofs.lemmas.Bool.{cases_eq, eq-eqb, ne_eqb, lt-leb}
 use Rattle.books.specs.Meaning.{Rule, Meaning, rule_at}
 use Rattle.books.specs.Judged.{Sound}
 use Rattle.makes.specs.Strikes.{strike_from, struck_meaning, strike_fault, StandsOver}
+use Rattle.stamps.specs.Orders.{Tests}
 
 pub length-strike_from : (struck : ℕ → Bool) (k : ℕ) (rs : List (Option Rule)) → length (strike_from struck k rs) ≡ length rs
 length-strike_from struck k [] = refl
@@ -47,9 +48,9 @@ cond-or : (b c : Bool) (o : Option Rule) → cond (b || c) None o ≡ cond b Non
 cond-or true c o = refl
 cond-or false c o = refl
 
-module _ {S : Type 0} (before not_after : S → S → Bool) (m : Meaning S) where
+module _ {S : Type 0} (tests : Tests S) (m : Meaning S) where
   -- a sound book stays sound where rules become vacant
-  sound_struck : (struck more : ℕ → Bool) → ((k : ℕ) (r : Rule) → rule_at (struck_meaning more m) k ≡ Some r → rule_at (struck_meaning struck m) k ≡ Some r) → Sound before not_after (struck_meaning struck m) → Sound before not_after (struck_meaning more m)
+  sound_struck : (struck more : ℕ → Bool) → ((k : ℕ) (r : Rule) → rule_at (struck_meaning more m) k ≡ Some r → rule_at (struck_meaning struck m) k ≡ Some r) → Sound tests (struck_meaning struck m) → Sound tests (struck_meaning more m)
   sound_struck struck more kept s = record {
     few_atoms = s.few_atoms;
     few_rules = rw length-strike_from (rw length-strike_from at s.few_rules);
@@ -62,7 +63,7 @@ module _ {S : Type 0} (before not_after : S → S → Bool) (m : Meaning S) wher
     });
   }
 
-  pub stands_over : (struck : ℕ → Bool) → StandsOver before not_after struck m (struck_meaning struck m)
+  pub stands_over : (struck : ℕ → Bool) → StandsOver tests struck m (struck_meaning struck m)
   stands_over struck = record {
     atoms = refl;
     count = length-strike_from struck 0 m.rules;
@@ -89,7 +90,7 @@ module _ {S : Type 0} (before not_after : S → S → Bool) (m : Meaning S) wher
         ∙ cond-or (eqb k n) (struck k) (rule_at m k)
         ∙ ap (cond (eqb k n) None) (sym (struck_rule struck m k))
 
-    pub stands_more : StandsOver before not_after (λ k. eqb k n) (struck_meaning struck m) (struck_meaning more m)
+    pub stands_more : StandsOver tests (λ k. eqb k n) (struck_meaning struck m) (struck_meaning more m)
     stands_more = record {
       atoms = refl;
       count = length-strike_from more 0 m.rules ∙ sym (length-strike_from struck 0 m.rules);

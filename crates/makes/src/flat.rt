@@ -5,7 +5,7 @@ ghost use Rattle.books.specs.Meaning.{rule_at};
 ghost use Rattle.makes.specs.Flats.{rule_of, flat_meaning};
 
 use crate::rows::{AtomRow, RuleRow};
-use books::book::Book;
+use books::book::{Book, Sign};
 use stamps::order::Order;
 
 // Row k of a table is atom or rule number k; a rule number whose row is None is vacant.
@@ -49,19 +49,11 @@ impl<S: Order> Book for Flat<'_, S> {
         Some(self.rule(rule)?.head)
     }
 
-    fn positive_count(&self, rule: usize) -> Option<usize> {
-        Some(self.rule(rule)?.positives.count())
+    fn body_count(&self, rule: usize, sign: Sign) -> Option<usize> {
+        Some(self.rule(rule)?.body(sign).count())
     }
 
-    fn negative_count(&self, rule: usize) -> Option<usize> {
-        Some(self.rule(rule)?.negatives.count())
-    }
-
-    fn positive(&self, rule: usize, i: usize) -> Option<usize> {
-        self.rule(rule)?.positives.get(i)
-    }
-
-    fn negative(&self, rule: usize, i: usize) -> Option<usize> {
-        self.rule(rule)?.negatives.get(i)
+    fn body_atom(&self, rule: usize, sign: Sign, i: usize) -> Option<usize> {
+        self.rule(rule)?.body(sign).get(i)
     }
 }

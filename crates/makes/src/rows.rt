@@ -1,8 +1,11 @@
 // The rows of a flat book's tables.
 ghost use Rattle.std.specs.Prelude.{◌≡◌, ◌≤◌, ◌↔◌, length, IsOk, IfOk};
+ghost use Rattle.books.specs.Meaning.{of_sign};
+ghost use Rattle.makes.specs.Bodies.{body_items};
 ghost use Rattle.makes.specs.Flats.{rule_of, rule_by};
 
 use crate::body::{Body, TooLong};
+use books::book::Sign;
 
 #[derive(Clone, Copy, Debug)]
 pub struct AtomRow<S> {
@@ -28,5 +31,15 @@ impl RuleRow {
             positives: Body::of(positives)?,
             negatives: Body::of(negatives)?,
         })
+    }
+
+    // The list of that sign.
+    pub fn body(&self, sign: Sign) -> &Body
+        ensures { body_items result.now ≡ of_sign sign (rule_of self.now) }
+    {
+        match sign {
+            Sign::Positive => &self.positives,
+            Sign::Negative => &self.negatives,
+        }
     }
 }

@@ -1,7 +1,9 @@
 -- The canonical spelling of a book: no leading zeros.
 use Rattle.std.specs.Prelude.{ℕ, zero, suc, ◌/◌, ◌%◌, ◌^◌, ◌≤◌, Bool, cond, List, [], ◌++◌, length, Some, None, codes, decimal, Option, ◌==◌}
 use Rattle.std.specs.List.{slice_get}
-use Rattle.books.specs.Meaning.{Rule, Atom, Meaning, bind_some, rule_at, positive_count_of, negative_count_of}
+use Rattle.std.specs.Option.{option_and_then}
+use Rattle.books.specs.Meaning.{Rule, Atom, Meaning, rule_at, body_count_of}
+use Rattle.books.specs.declared.book.Sign.TheVariants.{Positive, Negative}
 use Rattle.stamps.specs.declared.tick.Tick.{Tick}
 use Rattle.stamps.specs.declared.route.Route.{Route}
 use Rattle.stamps.specs.declared.then.Then.{Then}
@@ -84,7 +86,7 @@ book_text spelling spelt m =
 
 -- number i of a rule's positives, or of its negatives
 abbrev pub literal_in : Bool → Option Rule → ℕ → Option ℕ
-literal_in positive o i = bind_some (λ (r : Rule). slice_get (cond positive r.positives r.negatives) i) o
+literal_in positive o i = option_and_then (λ (r : Rule). slice_get (cond positive r.positives r.negatives) i) o
 
 -- the same, as it stands in a list
 abbrev pub item_in : Bool → Option Rule → ℕ → List ℕ
@@ -101,4 +103,4 @@ count_or (Some n) = n
 
 -- each rule has six positives and six negatives at most
 abbrev pub Few : {S : Type 0} → Meaning S → Type 0
-Few m = (k : ℕ) → (count_or (positive_count_of m k) ≤ 6) × (count_or (negative_count_of m k) ≤ 6)
+Few m = (k : ℕ) → (count_or (body_count_of m k Positive) ≤ 6) × (count_or (body_count_of m k Negative) ≤ 6)

@@ -2,10 +2,10 @@
 use Rattle.std.proofs.Common.{◌≡◌, ℕ, ◌≤◌, Bool, true, false, cond, ◌||◌, ltb, length, Some, None, Option, sym, refl, ap, subst, inl, inr, arith}
 use Rattle.std.proofs.lemmas.Option.{slice_get_past}
 use Rattle.std.proofs.lemmas.Bool.{cases_lt, or_parts, ltb-false}
-use Rattle.std.specs.Option.{option_map, option_flatten}
+use Rattle.std.specs.Option.{option_map, option_and_then, option_flatten}
 use Rattle.books.proofs.First.{first_none}
 use Rattle.books.specs.Check.{first_below}
-use Rattle.books.specs.Meaning.{Rule, Meaning, bind_some, rule_at}
+use Rattle.books.specs.Meaning.{Rule, Meaning, rule_at}
 use Rattle.books.specs.declared.fault.CheckFault.{CheckFault}
 use Rattle.text.specs.Spelt.{count_or, Few}
 use Rattle.writing.specs.Writes.{rule_gap, book_gap}
@@ -18,7 +18,7 @@ passes false x o e = (refl, e)
 abbrev FewIn : Option Rule → Type 0
 FewIn o = (count_or (option_map (λ (r : Rule). length r.positives) o) ≤ 6) × (count_or (option_map (λ (r : Rule). length r.negatives) o) ≤ 6)
 
-few_in : (o : Option Rule) (x : CheckFault) (rest : Rule → Option CheckFault) → bind_some (λ r. cond (ltb 6 (length r.positives) || ltb 6 (length r.negatives)) (Some x) (rest r)) o ≡ None → FewIn o
+few_in : (o : Option Rule) (x : CheckFault) (rest : Rule → Option CheckFault) → option_and_then (λ r. cond (ltb 6 (length r.positives) || ltb 6 (length r.negatives)) (Some x) (rest r)) o ≡ None → FewIn o
 few_in None x rest e = (omega arith, omega arith)
 few_in (Some r) x rest e =
     let p = passes (ltb 6 (length r.positives) || ltb 6 (length r.negatives)) x (rest r) e in

@@ -5,4 +5,4 @@ use Rattle.books.proofs.check.check_body.Given as goal
 -- nothing is at fault among the literals passed
 abbrev pub invariant-loop-index : goal.invariant-loop-index
 invariant-loop-index g l =
-    first_below l.index (literal_fault g.B.Stamp.Order.is_before g.B.Stamp.Order.is_not_after (g.B.Book.meaning l.book) l.rule l.positives l.head) ≡ None
+    first_below l.index (literal_fault g.B.Stamp.Order.tests (g.B.Book.meaning l.book) l.rule l.positives l.head) ≡ None
