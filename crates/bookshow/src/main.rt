@@ -143,11 +143,13 @@ fn repeating<'a>(
     slots: &'a [Slot],
     patterns: &'a [Pattern],
 ) -> anyhow::Result<()> {
-    let mut book = Repeating::empty();
-    if let Err(fault) = book.make(slots, 2, patterns) {
-        println!(rt; "{}", fault.refusal())?;
-        return Ok(());
-    }
+    let book = match Repeating::make(slots, 2, patterns) {
+        Ok(book) => book,
+        Err(fault) => {
+            println!(rt; "{}", fault.refusal())?;
+            return Ok(());
+        }
+    };
     println!(rt; "the same situation every tick, over 2 ticks")?;
     show(rt, &book, &NAMES)?;
     let mut struck = Struck::over(book);
