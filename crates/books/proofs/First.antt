@@ -2,7 +2,7 @@
 use Rattle.std.proofs.Common.{◌≡◌, ℕ, zero, suc, ◌+◌, ◌<◌, ◌≤◌, cond, ◌||◌, ltb, Some, None, Ok, Err, Option, sym, refl, ap, ◌∙◌, inl, inr, not-suc-le-zero, add-one, arith}
 use Rattle.std.proofs.lemmas.Bool.{cases_lt, le-ltb}
 use Rattle.std.specs.Option.{option_or}
-use Rattle.books.specs.Check.{first_below, unless}
+use Rattle.books.specs.Check.{first_below, unless, refused_by}
 use Rattle.books.specs.declared.fault.CheckFault.{CheckFault}
 use Rattle.books.specs.declared.fault.Fault.{Fault}
 
@@ -49,6 +49,23 @@ module _ {X : Type 0} (f : ℕ → Option X) where
   pub first_all : (n : ℕ) → ((i : ℕ) → i < n → f i ≡ None) → first_below n f ≡ None
   first_all zero h = refl
   first_all (suc n) h = rw (first_all n (λ i l. h i (omega arith)), h n (omega arith)) refl
+
+module _ {E : Type 0} (f : ℕ → Option E) where
+  -- tests in order go on after one that passes
+  pub goes_on : (i : ℕ) → first_below i f ≡ None → Ok tt ≡ refused_by (f i) → first_below (i + 1) f ≡ None
+  goes_on i h e = first_more f i h (no_fault (f i) e)
+    where
+      no_fault : (o : Option E) → Ok tt ≡ refused_by o → o ≡ None
+      no_fault None e = refl
+      no_fault (Some x) e = cc
+
+  -- and end at one that refuses
+  pub ends_at : (i n : ℕ) (e : E) → first_below i f ≡ None → Err e ≡ refused_by (f i) → i < n → Err e ≡ refused_by (first_below n f)
+  ends_at i n e h r l = ends (f i) refl r
+    where
+      ends : (o : Option E) → f i ≡ o → Err e ≡ refused_by o → Err e ≡ refused_by (first_below n f)
+      ends None at r = cc
+      ends (Some x) at r = r ∙ ap refused_by (sym (first_found f i n x h at l))
 
 -- a call that passed had no fault
 pub passed : (o : Option CheckFault) → Ok tt ≡ unless o → o ≡ None

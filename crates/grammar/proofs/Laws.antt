@@ -120,13 +120,13 @@ module _ {S : Type 0} (n : Notation S) (l : Lawful n) where
   written_answer m (Err f) written answer e = let z : ◌≡◌ {A = ℕ} 0 1 = cc in absurd (omega arith)
 
   pub answer_is_its_own : AnswerIsItsOwn n
-  answer_is_its_own before not_after text answer atoms rules room e = by_book (read_as n text atoms rules) refl e
+  answer_is_its_own tests text answer atoms rules room e = by_book (read_as n text atoms rules) refl e
     where
-      by_book : (r : Result (Meaning S) Fault) → read_as n text atoms rules ≡ r → and_then r (λ m. checked_text n.word n.spelt before not_after m room) ≡ Ok answer → canonical_at n.stamp_at n.word n.spelt before not_after answer atoms rules room ≡ Ok answer
+      by_book : (r : Result (Meaning S) Fault) → read_as n text atoms rules ≡ r → and_then r (λ m. checked_text n.word n.spelt tests m room) ≡ Ok answer → canonical_at n.stamp_at n.word n.spelt tests answer atoms rules room ≡ Ok answer
       by_book (Ok m) read h =
-          let same = written_answer m (unless (book_fault before not_after m)) (write_answer (book_gap m) (length (written_of n m)) room) answer h in
+          let same = written_answer m (unless (book_fault tests m)) (write_answer (book_gap m) (length (written_of n m)) room) answer h in
           let again : read_as n answer atoms rules ≡ Ok m = ap (λ t. read_as n t atoms rules) same ∙ (accepted_comes_back_lem text atoms rules m read).same in
-          ap (λ r. and_then r (λ m. checked_text n.word n.spelt before not_after m room)) again ∙ h
+          ap (λ r. and_then r (λ m. checked_text n.word n.spelt tests m room)) again ∙ h
       by_book (Err f) read h = let z : ◌≡◌ {A = ℕ} 0 1 = cc in absurd (omega arith)
 
   pub refused_at_the_first_byte_lem : RefusedAtTheFirstByte n

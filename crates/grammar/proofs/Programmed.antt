@@ -20,6 +20,7 @@ use Rattle.grammar.specs.Notations.{Notation, ticks, routes, pairs}
 use Rattle.grammar.specs.Programs.{RefusedByAll, ProgramRefusesThere}
 use Rattle.grammar.specs.Theorems.{read_as, written_of, Shaped, RefusedThere}
 use Rattle.grammar.proofs.Laws.{lawful_ticks, lawful_routes, lawful_pairs, refused_at_the_first_byte_lem}
+use Rattle.stamps.specs.Orders.{Tests}
 
 -- how many bytes of a word a text begins with
 abbrev agreed : List ℕ → List ℕ → ℕ
@@ -259,11 +260,11 @@ no_byte {X} None None needed room x k e = by_room (ltb room needed) e
     by_room false e = let z : ◌≡◌ {A = ℕ} 0 1 = cc in omega arith
 
 -- so a byte that is refused on the way to the canonical text is refused by the reader
-read_refused : {S : Type 0} (n : Notation S) (before not_after : S → S → Bool) (text : List ℕ) (atoms rules room k : ℕ) → canonical_at n.stamp_at n.word n.spelt before not_after text atoms rules room ≡ Err (Reading (Byte k)) → read_as n text atoms rules ≡ Err (Reading (Byte k))
-read_refused {S} n before not_after text atoms rules room k e = by_book (read_as n text atoms rules) e
+read_refused : {S : Type 0} (n : Notation S) (tests : Tests S) (text : List ℕ) (atoms rules room k : ℕ) → canonical_at n.stamp_at n.word n.spelt tests text atoms rules room ≡ Err (Reading (Byte k)) → read_as n text atoms rules ≡ Err (Reading (Byte k))
+read_refused {S} n tests text atoms rules room k e = by_book (read_as n text atoms rules) e
   where
-    by_book : (r : Result (Meaning S) Fault) → and_then r (λ m. checked_text n.word n.spelt before not_after m room) ≡ Err (Reading (Byte k)) → r ≡ Err (Reading (Byte k))
-    by_book (Ok m) h = absurd (no_byte (book_fault before not_after m) (book_gap m) (length (written_of n m)) room (written_of n m) k h)
+    by_book : (r : Result (Meaning S) Fault) → and_then r (λ m. checked_text n.word n.spelt tests m room) ≡ Err (Reading (Byte k)) → r ≡ Err (Reading (Byte k))
+    by_book (Ok m) h = absurd (no_byte (book_fault tests m) (book_gap m) (length (written_of n m)) room (written_of n m) k h)
     by_book (Err f) h = let same : f ≡ Reading (Byte k) = cc in ap Err same
 
 -- a text that is not too long is refused by the reader of its word's kind

@@ -12,6 +12,7 @@ use Rattle.writing.specs.Writes.{book_gap}
 use Rattle.grammar.specs.Pieces.{Care, shape, kept, plain}
 use Rattle.grammar.specs.Grammar.{Spells}
 use Rattle.grammar.specs.Notations.{Notation}
+use Rattle.stamps.specs.Orders.{Tests}
 
 -- tables of these lengths, and the limits of a book, take the book
 pub record Takes {S : Type 0} (atoms rules : ℕ) (m : Meaning S) : Type 0 where
@@ -71,9 +72,9 @@ module _ {S : Type 0} (n : Notation S) where
   -- what `canonical` answers to a text it answers to that answer, whatever the order of the stamps
   abbrev pub AnswerIsItsOwn : Type 0
   AnswerIsItsOwn =
-      (before not_after : S → S → Bool) (text answer : List ℕ) (atoms rules room : ℕ)
-      → canonical_at n.stamp_at n.word n.spelt before not_after text atoms rules room ≡ Ok answer
-      → canonical_at n.stamp_at n.word n.spelt before not_after answer atoms rules room ≡ Ok answer
+      (tests : Tests S) (text answer : List ℕ) (atoms rules room : ℕ)
+      → canonical_at n.stamp_at n.word n.spelt tests text atoms rules room ≡ Ok answer
+      → canonical_at n.stamp_at n.word n.spelt tests answer atoms rules room ≡ Ok answer
 
   -- each degree of care keeps what the lower one keeps
   pub record Nested (m : Meaning S) (text : List ℕ) : Type 0 where

@@ -6,6 +6,7 @@ use Rattle.std.proofs.lemmas.Bool.{cases_eq, eq-eqb, ne_eqb, lt-leb}
 use Rattle.books.specs.Meaning.{Rule, Meaning, rule_at}
 use Rattle.books.specs.Judged.{Sound}
 use Rattle.makes.specs.Strikes.{strike_from, struck_meaning, strike_fault, StandsOver}
+use Rattle.stamps.specs.Orders.{Tests}
 
 pub length-strike_from : (struck : ℕ → Bool) (k : ℕ) (rs : List (Option Rule)) → length (strike_from struck k rs) ≡ length rs
 length-strike_from struck k [] = refl
@@ -26,6 +27,9 @@ slice_get-strike_from struck k (r ∷ rs) (suc i) =
 pub struck_rule : {S : Type 0} (struck : ℕ → Bool) (m : Meaning S) (k : ℕ) → rule_at (struck_meaning struck m) k ≡ cond (struck k) None (rule_at m k)
 struck_rule struck m k = let at : 0 + k ≡ k = omega arith in slice_get-strike_from struck 0 m.rules k ∙ ap (λ n. cond (struck n) None (rule_at m k)) at
 
+pub struck_length : {S : Type 0} (struck : ℕ → Bool) (m : Meaning S) → length (struck_meaning struck m).rules ≡ length m.rules
+struck_length struck m = length-strike_from struck 0 m.rules
+
 pub struck_gone : {S : Type 0} (struck : ℕ → Bool) (m : Meaning S) (k : ℕ) → true ≡ struck k → rule_at (struck_meaning struck m) k ≡ None
 struck_gone struck m k e = struck_rule struck m k ∙ ap (λ b. cond b None (rule_at m k)) (sym e)
 
@@ -44,9 +48,9 @@ cond-or : (b c : Bool) (o : Option Rule) → cond (b || c) None o ≡ cond b Non
 cond-or true c o = refl
 cond-or false c o = refl
 
-module _ {S : Type 0} (before not_after : S → S → Bool) (m : Meaning S) where
+module _ {S : Type 0} (tests : Tests S) (m : Meaning S) where
   -- a sound book stays sound where rules become vacant
-  sound_struck : (struck more : ℕ → Bool) → ((k : ℕ) (r : Rule) → rule_at (struck_meaning more m) k ≡ Some r → rule_at (struck_meaning struck m) k ≡ Some r) → Sound before not_after (struck_meaning struck m) → Sound before not_after (struck_meaning more m)
+  sound_struck : (struck more : ℕ → Bool) → ((k : ℕ) (r : Rule) → rule_at (struck_meaning more m) k ≡ Some r → rule_at (struck_meaning struck m) k ≡ Some r) → Sound tests (struck_meaning struck m) → Sound tests (struck_meaning more m)
   sound_struck struck more kept s = record {
     few_atoms = s.few_atoms;
     few_rules = rw length-strike_from (rw length-strike_from at s.few_rules);
@@ -59,7 +63,7 @@ module _ {S : Type 0} (before not_after : S → S → Bool) (m : Meaning S) wher
     });
   }
 
-  pub stands_over : (struck : ℕ → Bool) → StandsOver before not_after struck m (struck_meaning struck m)
+  pub stands_over : (struck : ℕ → Bool) → StandsOver tests struck m (struck_meaning struck m)
   stands_over struck = record {
     atoms = refl;
     count = length-strike_from struck 0 m.rules;
@@ -86,7 +90,7 @@ module _ {S : Type 0} (before not_after : S → S → Bool) (m : Meaning S) wher
         ∙ cond-or (eqb k n) (struck k) (rule_at m k)
         ∙ ap (cond (eqb k n) None) (sym (struck_rule struck m k))
 
-    pub stands_more : StandsOver before not_after (λ k. eqb k n) (struck_meaning struck m) (struck_meaning more m)
+    pub stands_more : StandsOver tests (λ k. eqb k n) (struck_meaning struck m) (struck_meaning more m)
     stands_more = record {
       atoms = refl;
       count = length-strike_from more 0 m.rules ∙ sym (length-strike_from struck 0 m.rules);

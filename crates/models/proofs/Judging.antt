@@ -71,62 +71,62 @@ module _ {S : Type 0} (m : Meaning S) where
     pending_out a = or_out (due m held a) (still_open a)
 
     module _ (not_after : S → S → Bool) where
-      pub blocked_out : (r : Rule) → T (blocked not_after m held still_open r) → (b : ℕ) × T (pending m held still_open b) × T (some (relates not_after m b) r.negatives)
+      pub blocked_out : (r : Rule) → T (blocked tests m held still_open r) → (b : ℕ) × T (pending m held still_open b) × T (some (relates tests.not_after m b) r.negatives)
       unfolding blocked blocks
       blocked_out r t =
-          let f : (b : ℕ) × (b < length m.atoms) × T (blocks not_after m held still_open r b) = below_out (length m.atoms) (blocks not_after m held still_open r) t in
-          let p = pending m held still_open f.0 in let s = some (relates not_after m f.0) r.negatives in
+          let f : (b : ℕ) × (b < length m.atoms) × T (blocks tests m held still_open r b) = below_out (length m.atoms) (blocks tests m held still_open r) t in
+          let p = pending m held still_open f.0 in let s = some (relates tests.not_after m f.0) r.negatives in
           (f.0, and_left p s f.2, and_right p s f.2)
 
-      pub blocked_in : (r : Rule) (b : ℕ) → T (pending m held still_open b) → T (some (relates not_after m b) r.negatives) → T (blocked not_after m held still_open r)
+      pub blocked_in : (r : Rule) (b : ℕ) → T (pending m held still_open b) → T (some (relates tests.not_after m b) r.negatives) → T (blocked tests m held still_open r)
       unfolding blocked blocks
       blocked_in r b p s =
-          let n : (n : ℕ) × T (relates not_after m b n) = some_out (relates not_after m b) r.negatives s in
-          below_in (length m.atoms) (blocks not_after m held still_open r) b (place m b (related_in_book m not_after b n.0 n.1))
-          (and_in (pending m held still_open b) (some (relates not_after m b) r.negatives) p s)
+          let n : (n : ℕ) × T (relates tests.not_after m b n) = some_out (relates tests.not_after m b) r.negatives s in
+          below_in (length m.atoms) (blocks tests m held still_open r) b (place m b (related_in_book m tests.not_after b n.0 n.1))
+          (and_in (pending m held still_open b) (some (relates tests.not_after m b) r.negatives) p s)
 
       -- ready and without a blocker
       abbrev pub unblocked : Rule → Bool
-      unblocked r = ready m held r && not (blocked not_after m held still_open r)
+      unblocked r = ready m held r && not (blocked tests m held still_open r)
 
-      pub safe_due : (a : ℕ) → T (safe not_after m held still_open a) → T (due m held a)
+      pub safe_due : (a : ℕ) → T (safe tests m held still_open a) → T (due m held a)
       unfolding safe
       safe_due a t = and_left (due m held a) (heads_some m unblocked a) t
 
-      pub safe_rule : (a : ℕ) → T (safe not_after m held still_open a) → Headed m a (λ r. T (unblocked r))
+      pub safe_rule : (a : ℕ) → T (safe tests m held still_open a) → Headed m a (λ r. T (unblocked r))
       unfolding safe
       safe_rule a t = headed_out m unblocked a (and_right (due m held a) (heads_some m unblocked a) t)
 
-      pub safe_in : (a : ℕ) → T (due m held a) → Headed m a (λ r. T (unblocked r)) → T (safe not_after m held still_open a)
+      pub safe_in : (a : ℕ) → T (due m held a) → Headed m a (λ r. T (unblocked r)) → T (safe tests m held still_open a)
       unfolding safe
       safe_in a t h = and_in (due m held a) (heads_some m unblocked a) t (headed_in m unblocked a h)
 
       pub unblocked_ready : (r : Rule) → T (unblocked r) → T (ready m held r)
-      unblocked_ready r = and_left (ready m held r) (not (blocked not_after m held still_open r))
+      unblocked_ready r = and_left (ready m held r) (not (blocked tests m held still_open r))
 
-      pub unblocked_free : (r : Rule) → T (unblocked r) → T (blocked not_after m held still_open r) → ⊥
-      unblocked_free r t = not_out (blocked not_after m held still_open r) (and_right (ready m held r) (not (blocked not_after m held still_open r)) t)
+      pub unblocked_free : (r : Rule) → T (unblocked r) → T (blocked tests m held still_open r) → ⊥
+      unblocked_free r t = not_out (blocked tests m held still_open r) (and_right (ready m held r) (not (blocked tests m held still_open r)) t)
 
-      pub unblocked_in : (r : Rule) → T (ready m held r) → (T (blocked not_after m held still_open r) → ⊥) → T (unblocked r)
-      unblocked_in r t f = and_in (ready m held r) (not (blocked not_after m held still_open r)) t (not_in (blocked not_after m held still_open r) f)
+      pub unblocked_in : (r : Rule) → T (ready m held r) → (T (blocked tests m held still_open r) → ⊥) → T (unblocked r)
+      unblocked_in r t f = and_in (ready m held r) (not (blocked tests m held still_open r)) t (not_in (blocked tests m held still_open r) f)
 
-      pub ruled_in : (a : ℕ) → (T (holds m held a) → ⊥) → ((b : ℕ) → T (pending m held still_open b) → T (relates not_after m b a) → ⊥) → T (ruled_out not_after m held still_open a)
+      pub ruled_in : (a : ℕ) → (T (holds m held a) → ⊥) → ((b : ℕ) → T (pending m held still_open b) → T (relates tests.not_after m b a) → ⊥) → T (ruled_out tests m held still_open a)
       unfolding ruled_out awaited
       ruled_in a f g =
-          and_in (not (holds m held a)) (not (awaited not_after m held still_open a)) (not_in (holds m held a) f)
-          (not_in (awaited not_after m held still_open a) (λ t.
-          let w : (b : ℕ) × (b < length m.atoms) × T (pending m held still_open b && relates not_after m b a) = below_out (length m.atoms) (λ b. pending m held still_open b && relates not_after m b a) t in
-          let p = pending m held still_open w.0 in let s = relates not_after m w.0 a in
+          and_in (not (holds m held a)) (not (awaited tests m held still_open a)) (not_in (holds m held a) f)
+          (not_in (awaited tests m held still_open a) (λ t.
+          let w : (b : ℕ) × (b < length m.atoms) × T (pending m held still_open b && relates tests.not_after m b a) = below_out (length m.atoms) (λ b. pending m held still_open b && relates tests.not_after m b a) t in
+          let p = pending m held still_open w.0 in let s = relates tests.not_after m w.0 a in
           g w.0 (and_left p s w.2) (and_right p s w.2)))
 
-      pub ruled_unheld : (a : ℕ) → T (ruled_out not_after m held still_open a) → T (holds m held a) → ⊥
+      pub ruled_unheld : (a : ℕ) → T (ruled_out tests m held still_open a) → T (holds m held a) → ⊥
       unfolding ruled_out
-      ruled_unheld a t = not_out (holds m held a) (and_left (not (holds m held a)) (not (awaited not_after m held still_open a)) t)
+      ruled_unheld a t = not_out (holds m held a) (and_left (not (holds m held a)) (not (awaited tests m held still_open a)) t)
 
-      pub ruled_none : (a : ℕ) → T (ruled_out not_after m held still_open a) → (b : ℕ) → T (pending m held still_open b) → T (relates not_after m b a) → ⊥
+      pub ruled_none : (a : ℕ) → T (ruled_out tests m held still_open a) → (b : ℕ) → T (pending m held still_open b) → T (relates tests.not_after m b a) → ⊥
       unfolding ruled_out awaited
       ruled_none a t b p s =
-          not_out (awaited not_after m held still_open a) (and_right (not (holds m held a)) (not (awaited not_after m held still_open a)) t)
-          (below_in (length m.atoms) (λ b. pending m held still_open b && relates not_after m b a) b
-          (place m b (related_in_book m not_after b a s))
-          (and_in (pending m held still_open b) (relates not_after m b a) p s))
+          not_out (awaited tests m held still_open a) (and_right (not (holds m held a)) (not (awaited tests m held still_open a)) t)
+          (below_in (length m.atoms) (λ b. pending m held still_open b && relates tests.not_after m b a) b
+          (place m b (related_in_book m tests.not_after b a s))
+          (and_in (pending m held still_open b) (relates tests.not_after m b a) p s))

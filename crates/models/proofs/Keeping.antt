@@ -14,6 +14,7 @@ use Rattle.models.proofs.Judging.{ready_out, due_rule}
 use Rattle.models.proofs.Lasting.{grows}
 use Rattle.models.proofs.Founding.{Founded, fed_open, founded_run}
 use Rattle.models.proofs.Settling.{held_in_book_lem}
+use Rattle.stamps.specs.Orders.{IsLawful, Tests}
 
 -- no atom is both a reading and derived
 pub not_both : {S : Type 0} (m : Meaning S) (a : ℕ) → T (is_reading m a) → T (is_derived m a) → ⊥
@@ -31,26 +32,26 @@ due_derived m held a t =
 
 module _ {S : Type 0} (not_after : S → S → Bool) (m : Meaning S) where
   -- nothing opens again
-  pub fewer_all : (s : State) (xs : List Move) → T (may_all not_after m s xs) → Within (after_all not_after m s xs).still_open s.still_open
+  pub fewer_all : (s : State) (xs : List Move) → T (may_all tests m s xs) → Within (after_all tests m s xs).still_open s.still_open
   fewer_all s [] t a o = o
   fewer_all s (x ∷ xs) t a o =
-      let next = after not_after m s x in
-      (grows not_after m s x (and_left (may not_after m s x) (may_all not_after m next xs) t)).fewer a
-      (fewer_all next xs (and_right (may not_after m s x) (may_all not_after m next xs) t) a o)
+      let next = after tests m s x in
+      (grows tests m s x (and_left (may tests m s x) (may_all tests m next xs) t)).fewer a
+      (fewer_all next xs (and_right (may tests m s x) (may_all tests m next xs) t) a o)
 
-  closed_open : (s : State) (x : Move) → T (may not_after m s x) → (a : ℕ) → T (closes x a) → T (s.still_open a)
+  closed_open : (s : State) (x : Move) → T (may tests m s x) → (a : ℕ) → T (closes x a) → T (s.still_open a)
   closed_open s (feed x) t a c = absurd c
   closed_open s (close x) t a c = subst (λ (b : ℕ). T (s.still_open b)) (eqb→eq x a c) t
   closed_open s (take x) t a c = absurd c
   closed_open s sweep t a c = absurd c
 
-  fed_shut : (s : State) (x : Move) (a : ℕ) → T (feeds x a) → T ((after not_after m s x).still_open a) → ⊥
+  fed_shut : (s : State) (x : Move) (a : ℕ) → T (feeds x a) → T ((after tests m s x).still_open a) → ⊥
   fed_shut s (feed x) a f o = not_out (eqb x a) (and_right (s.still_open a) (not (eqb x a)) o) f
   fed_shut s (close x) a f o = f
   fed_shut s (take x) a f o = f
   fed_shut s sweep a f o = f
 
-  closed_shut : (s : State) (x : Move) (a : ℕ) → T (closes x a) → T ((after not_after m s x).still_open a) → ⊥
+  closed_shut : (s : State) (x : Move) (a : ℕ) → T (closes x a) → T ((after tests m s x).still_open a) → ⊥
   closed_shut s (feed x) a c o = c
   closed_shut s (close x) a c o = not_out (eqb x a) (and_right (s.still_open a) (not (eqb x a)) o) c
   closed_shut s (take x) a c o = c
@@ -63,43 +64,43 @@ module _ {S : Type 0} (not_after : S → S → Bool) (m : Meaning S) where
   one_only sweep a f c = f
 
   -- what is not open is neither fed nor closed any more
-  never_again : (s : State) (xs : List Move) → T (may_all not_after m s xs) → (a : ℕ) → (T (s.still_open a) → ⊥) → T (fed_by xs a) ⊎ T (closed_by xs a) → ⊥
+  never_again : (s : State) (xs : List Move) → T (may_all tests m s xs) → (a : ℕ) → (T (s.still_open a) → ⊥) → T (fed_by xs a) ⊎ T (closed_by xs a) → ⊥
   never_again s [] t a shut w = ⊎_elim (λ f. f) (λ c. c) w
   never_again s (x ∷ xs) t a shut w =
-      let next = after not_after m s x in
-      let first = and_left (may not_after m s x) (may_all not_after m next xs) t in
+      let next = after tests m s x in
+      let first = and_left (may tests m s x) (may_all tests m next xs) t in
       let later : T (fed_by xs a) ⊎ T (closed_by xs a) → ⊥
-      = never_again next xs (and_right (may not_after m s x) (may_all not_after m next xs) t) a (λ o. shut ((grows not_after m s x first).fewer a o)) in
+      = never_again next xs (and_right (may tests m s x) (may_all tests m next xs) t) a (λ o. shut ((grows tests m s x first).fewer a o)) in
       ⊎_elim
-      (λ f. ⊎_elim (λ e. shut (fed_open not_after m s x first a e)) (λ e. later (inl e)) (or_out (feeds x a) (fed_by xs a) f))
+      (λ f. ⊎_elim (λ e. shut (fed_open tests m s x first a e)) (λ e. later (inl e)) (or_out (feeds x a) (fed_by xs a) f))
       (λ c. ⊎_elim (λ e. shut (closed_open s x first a e)) (λ e. later (inr e)) (or_out (closes x a) (closed_by xs a) c))
       w
 
   -- no reading is both fed and closed
-  pub fed_not_closed : (s : State) (xs : List Move) → T (may_all not_after m s xs) → (a : ℕ) → T (fed_by xs a) → T (closed_by xs a) → ⊥
+  pub fed_not_closed : (s : State) (xs : List Move) → T (may_all tests m s xs) → (a : ℕ) → T (fed_by xs a) → T (closed_by xs a) → ⊥
   fed_not_closed s [] t a f c = f
   fed_not_closed s (x ∷ xs) t a f c =
-      let next = after not_after m s x in
-      let rest = and_right (may not_after m s x) (may_all not_after m next xs) t in
+      let next = after tests m s x in
+      let rest = and_right (may tests m s x) (may_all tests m next xs) t in
       ⊎_elim
       (λ e. ⊎_elim (one_only x a e) (λ d. never_again next xs rest a (fed_shut s x a e) (inr d)) (or_out (closes x a) (closed_by xs a) c))
       (λ e. ⊎_elim (λ d. never_again next xs rest a (closed_shut s x a d) (inl e)) (fed_not_closed next xs rest a e) (or_out (closes x a) (closed_by xs a) c))
       (or_out (feeds x a) (fed_by xs a) f)
 
   -- what was fed is not open
-  pub fed_not_open : (s : State) (xs : List Move) → T (may_all not_after m s xs) → (a : ℕ) → T (fed_by xs a) → T ((after_all not_after m s xs).still_open a) → ⊥
+  pub fed_not_open : (s : State) (xs : List Move) → T (may_all tests m s xs) → (a : ℕ) → T (fed_by xs a) → T ((after_all tests m s xs).still_open a) → ⊥
   fed_not_open s [] t a f o = f
   fed_not_open s (x ∷ xs) t a f o =
-      let next = after not_after m s x in
-      let rest = and_right (may not_after m s x) (may_all not_after m next xs) t in
+      let next = after tests m s x in
+      let rest = and_right (may tests m s x) (may_all tests m next xs) t in
       ⊎_elim (λ e. fed_shut s x a e (fewer_all next xs rest a o)) (λ e. fed_not_open next xs rest a e o) (or_out (feeds x a) (fed_by xs a) f)
 
   -- what was closed is not open
-  pub closed_not_open : (s : State) (xs : List Move) → T (may_all not_after m s xs) → (a : ℕ) → T (closed_by xs a) → T ((after_all not_after m s xs).still_open a) → ⊥
+  pub closed_not_open : (s : State) (xs : List Move) → T (may_all tests m s xs) → (a : ℕ) → T (closed_by xs a) → T ((after_all tests m s xs).still_open a) → ⊥
   closed_not_open s [] t a c o = c
   closed_not_open s (x ∷ xs) t a c o =
-      let next = after not_after m s x in
-      let rest = and_right (may not_after m s x) (may_all not_after m next xs) t in
+      let next = after tests m s x in
+      let rest = and_right (may tests m s x) (may_all tests m next xs) t in
       ⊎_elim (λ e. closed_shut s x a e (fewer_all next xs rest a o)) (λ e. closed_not_open next xs rest a e o) (or_out (closes x a) (closed_by xs a) c)
 
 pub record Kept {S : Type 0} (m : Meaning S) (s : State) (fed : Set) : Type 0 where
@@ -109,35 +110,35 @@ pub record Kept {S : Type 0} (m : Meaning S) (s : State) (fed : Set) : Type 0 wh
   pub fed_held : Within fed s.held
   pub held_fed : (a : ℕ) → T (is_reading m a) → T (s.held a) → T (fed a)
 
-module _ {S : Type 0} {before not_after : S → S → Bool} (laws : Lawful before not_after) {m : Meaning S} (sound : Sound before not_after m) where
+module _ {S : Type 0} {tests : Tests S} (laws : IsLawful tests) {m : Meaning S} (sound : Sound tests m) where
   -- of the readings only the fed are held
-  held_fed_lem : (s : State) (fed : Set) → Founded not_after m s fed → (a : ℕ) → T (is_reading m a) → T (s.held a) → T (fed a)
+  held_fed_lem : (s : State) (fed : Set) → Founded tests m s fed → (a : ℕ) → T (is_reading m a) → T (s.held a) → T (fed a)
   held_fed_lem s fed f a r h =
       ⊎_elim (λ e. e) (λ d. absurd (not_both m a r d)) (or_out (fed a) (is_derived m a)
       (f.grounded (λ b. fed b || is_derived m b) (λ b e. or_left (fed b) (is_derived m b) e)
       (λ k x e ps ns. or_right (fed x.head) (is_derived m x.head) (head_derived laws sound k x e)) a h))
 
-  pub kept : (xs : List Move) → Run not_after m xs → Kept m (reached not_after m xs) (fed_by xs)
+  pub kept : (xs : List Move) → Run tests m xs → Kept m (reached tests m xs) (fed_by xs)
   kept xs run =
-      let f : Founded not_after m (reached not_after m xs) (fed_by xs) = founded_run laws sound xs run in
+      let f : Founded tests m (reached tests m xs) (fed_by xs) = founded_run laws sound xs run in
       record {
         open_readings = f.opens;
-        held_in_book = held_in_book_lem laws sound (reached not_after m xs) (fed_by xs) f;
-        apart = λ a o h. fed_not_open not_after m (start m) xs run a (held_fed_lem (reached not_after m xs) (fed_by xs) f a (f.opens a o) h) o;
+        held_in_book = held_in_book_lem laws sound (reached tests m xs) (fed_by xs) f;
+        apart = λ a o h. fed_not_open tests m (start m) xs run a (held_fed_lem (reached tests m xs) (fed_by xs) f a (f.opens a o) h) o;
         fed_held = f.fed_held;
-        held_fed = held_fed_lem (reached not_after m xs) (fed_by xs) f;
+        held_fed = held_fed_lem (reached tests m xs) (fed_by xs) f;
       }
 
   -- whichever of the open readings come, they and the fed ones are a possible outcome
-  pub may_come : (xs : List Move) → Run not_after m xs → (come : Set) → Within come (reached not_after m xs).still_open → Outcome m xs (λ a. fed_by xs a || come a)
+  pub may_come : (xs : List Move) → Run tests m xs → (come : Set) → Within come (reached tests m xs).still_open → Outcome m xs (λ a. fed_by xs a || come a)
   may_come xs run come within = record {
     readings_only = λ a h. ⊎_elim (founded.readings a) (λ e. founded.opens a (within a e)) (or_out (fed_by xs a) (come a) h);
     fed = λ a f. or_left (fed_by xs a) (come a) f;
     none_closed = λ a c. false_in (fed_by xs a || come a) (λ h. ⊎_elim
-        (λ f. fed_not_closed not_after m (start m) xs run a f c)
-        (λ e. closed_not_open not_after m (start m) xs run a c (within a e))
+        (λ f. fed_not_closed tests m (start m) xs run a f c)
+        (λ e. closed_not_open tests m (start m) xs run a c (within a e))
         (or_out (fed_by xs a) (come a) h));
   }
     where
-      founded : Founded not_after m (reached not_after m xs) (fed_by xs)
+      founded : Founded tests m (reached tests m xs) (fed_by xs)
       founded = founded_run laws sound xs run

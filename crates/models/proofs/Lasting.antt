@@ -11,6 +11,7 @@ use Rattle.models.proofs.Truth.{and_left, and_right, or_left, or_out, either}
 use Rattle.models.proofs.Members.{one_differs, some_within}
 use Rattle.models.proofs.Places.{Headed, related_in_book, reflexive, transitive}
 use Rattle.models.proofs.Judging.{Ready, holds_in, holds_there, holds_held, holds_within, ready_out, ready_in, due_unheld, due_rule, due_in, pending_due, pending_open, pending_out, safe_due, ruled_in, ruled_unheld, ruled_none}
+use Rattle.stamps.specs.Orders.{IsLawful, Tests}
 
 -- from one state to a later one: what is held stays, nothing opens, and what is newly held was due or open
 pub record Grows {S : Type 0} (m : Meaning S) (s t : State) : Type 0 where
@@ -18,7 +19,7 @@ pub record Grows {S : Type 0} (m : Meaning S) (s t : State) : Type 0 where
   pub fewer : Within t.still_open s.still_open
   pub fresh : (a : ℕ) → T (t.held a) → T (s.held a) ⊎ T (pending m s.held s.still_open a)
 
-module _ {S : Type 0} {before not_after : S → S → Bool} (laws : Lawful before not_after) {m : Meaning S} (sound : Sound before not_after m) where
+module _ {S : Type 0} {tests : Tests S} (laws : IsLawful tests) {m : Meaning S} (sound : Sound tests m) where
   module _ (s t : State) (grows : Grows m s t) where
     newly : (a : ℕ) → T (holds m t.held a) → (T (holds m s.held a) → ⊥) → T (pending m s.held s.still_open a)
     newly a h f =
@@ -29,7 +30,7 @@ module _ {S : Type 0} {before not_after : S → S → Bool} (laws : Lawful befor
 
     -- a rule that is ready later was ready before, or has a positive that was due or open
     ready_before : (k : ℕ) (r : Rule) → rule_at m k ≡ Some r → T (ready m t.held r) →
-        T (ready m s.held r) ⊎ ((p : ℕ) × T (relates not_after m p r.head) × T (pending m s.held s.still_open p))
+        T (ready m s.held r) ⊎ ((p : ℕ) × T (relates tests.not_after m p r.head) × T (pending m s.held s.still_open p))
     ready_before k r e h =
         let now : Ready m t.held r = ready_out m t.held r h in
         ⊎_elim
@@ -39,17 +40,17 @@ module _ {S : Type 0} {before not_after : S → S → Bool} (laws : Lawful befor
           negatives = λ n. now.negatives (some_within (holds m s.held) (holds m t.held) (holds_within m s.held t.held grows.kept) r.negatives n);
         })))
         (λ lacks.
-        let one : (p : ℕ) × T (relates not_after m p r.head) × T (holds m t.held p) × (T (holds m s.held p) → ⊥)
-        = one_differs (λ p. T (relates not_after m p r.head)) (holds m t.held) (holds m s.held) r.positives
+        let one : (p : ℕ) × T (relates tests.not_after m p r.head) × T (holds m t.held p) × (T (holds m s.held p) → ⊥)
+        = one_differs (λ p. T (relates tests.not_after m p r.head)) (holds m t.held) (holds m s.held) r.positives
         (sound.rules k r e).positives now.positives lacks in
         inr (one.0, one.1, newly one.0 one.2 one.3))
         (either (every (holds m s.held) r.positives))
 
     -- whatever is due or open later, something was due or open before that is not after it
-    source : (b : ℕ) → T (in_book m b) → T (pending m t.held t.still_open b) → (p : ℕ) × T (relates not_after m p b) × T (pending m s.held s.still_open p)
+    source : (b : ℕ) → T (in_book m b) → T (pending m t.held t.still_open b) → (p : ℕ) × T (relates tests.not_after m p b) × T (pending m s.held s.still_open p)
     source b there later = ⊎_elim was_due (λ o. (b, reflexive laws m b there, pending_open m s.held s.still_open b (grows.fewer b o))) (pending_out m t.held t.still_open b later)
       where
-        was_due : T (due m t.held b) → (p : ℕ) × T (relates not_after m p b) × T (pending m s.held s.still_open p)
+        was_due : T (due m t.held b) → (p : ℕ) × T (relates tests.not_after m p b) × T (pending m s.held s.still_open p)
         was_due d =
             let h : Headed m b (λ r. T (ready m t.held r)) = due_rule m t.held b d in
             ⊎_elim
@@ -60,19 +61,19 @@ module _ {S : Type 0} {before not_after : S → S → Bool} (laws : Lawful befor
                   (λ k. due_unheld m t.held b d (holds_within m s.held t.held grows.kept b k))
                   (record { number = h.number; rule = h.rule; is = h.is; heads = h.heads; so = r })),
             ))
-            (λ w. (w.0, subst (λ (c : ℕ). T (relates not_after m w.0 c)) h.heads w.1, w.2))
+            (λ w. (w.0, subst (λ (c : ℕ). T (relates tests.not_after m w.0 c)) h.heads w.1, w.2))
             (ready_before h.number h.rule h.is h.so)
 
     -- what is ruled out is so later
-    pub lasts : (a : ℕ) → T (ruled_out_in not_after m s a) → T (ruled_out_in not_after m t a)
+    pub lasts : (a : ℕ) → T (ruled_out_in tests m s a) → T (ruled_out_in tests m t a)
     lasts a out =
-        ruled_in m t.held t.still_open not_after a
-        (λ h. ruled_none m s.held s.still_open not_after a out a
-        (newly a h (ruled_unheld m s.held s.still_open not_after a out))
+        ruled_in m t.held t.still_open tests a
+        (λ h. ruled_none m s.held s.still_open tests a out a
+        (newly a h (ruled_unheld m s.held s.still_open tests a out))
         (reflexive laws m a (holds_there m t.held a h)))
         (λ b p r.
-        let w : (p : ℕ) × T (relates not_after m p b) × T (pending m s.held s.still_open p) = source b (related_in_book m not_after b a r) p in
-        ruled_none m s.held s.still_open not_after a out w.0 w.2 (transitive laws m w.0 b a w.1 r))
+        let w : (p : ℕ) × T (relates tests.not_after m p b) × T (pending m s.held s.still_open p) = source b (related_in_book m tests.not_after b a r) p in
+        ruled_none m s.held s.still_open tests a out w.0 w.2 (transitive laws m w.0 b a w.1 r))
 
 -- each move leads to such a later state
 module _ {S : Type 0} (not_after : S → S → Bool) (m : Meaning S) (s : State) where
@@ -81,7 +82,7 @@ module _ {S : Type 0} (not_after : S → S → Bool) (m : Meaning S) (s : State)
   one_more x p a t =
       ⊎_elim inl (λ e. inr (subst (λ (b : ℕ). T (pending m s.held s.still_open b)) (eqb→eq x a e) p)) (or_out (s.held a) (eqb x a) t)
 
-  pub grows : (x : Move) → T (may not_after m s x) → Grows m s (after not_after m s x)
+  pub grows : (x : Move) → T (may tests m s x) → Grows m s (after tests m s x)
   grows (feed x) t = record {
     kept = λ a h. or_left (s.held a) (eqb x a) h;
     fewer = λ a h. and_left (s.still_open a) (not (eqb x a)) h;
@@ -91,14 +92,14 @@ module _ {S : Type 0} (not_after : S → S → Bool) (m : Meaning S) (s : State)
   grows (take x) t = record {
     kept = λ a h. or_left (s.held a) (eqb x a) h;
     fewer = λ a h. h;
-    fresh = one_more x (pending_due m s.held s.still_open x (safe_due m s.held s.still_open not_after x t));
+    fresh = one_more x (pending_due m s.held s.still_open x (safe_due m s.held s.still_open tests x t));
   }
   grows sweep t = record {
-    kept = λ a h. or_left (s.held a) (safe not_after m s.held s.still_open a) h;
+    kept = λ a h. or_left (s.held a) (safe tests m s.held s.still_open a) h;
     fewer = λ a h. h;
     fresh = λ a h. ⊎_elim inl
-        (λ k. inr (pending_due m s.held s.still_open a (safe_due m s.held s.still_open not_after a k)))
-        (or_out (s.held a) (safe not_after m s.held s.still_open a) h);
+        (λ k. inr (pending_due m s.held s.still_open a (safe_due m s.held s.still_open tests a k)))
+        (or_out (s.held a) (safe tests m s.held s.still_open a) h);
   }
 
   pub grows_decided : (R : Set) → Grows m s (decided R s)
@@ -110,16 +111,16 @@ module _ {S : Type 0} (not_after : S → S → Bool) (m : Meaning S) (s : State)
         (or_out (s.held a) (s.still_open a && R a) h);
   }
 
-module _ {S : Type 0} {before not_after : S → S → Bool} (laws : Lawful before not_after) {m : Meaning S} (sound : Sound before not_after m) where
-  pub lasts_all : (s : State) (xs : List Move) → T (may_all not_after m s xs) → (a : ℕ) → T (ruled_out_in not_after m s a) → T (ruled_out_in not_after m (after_all not_after m s xs) a)
+module _ {S : Type 0} {tests : Tests S} (laws : IsLawful tests) {m : Meaning S} (sound : Sound tests m) where
+  pub lasts_all : (s : State) (xs : List Move) → T (may_all tests m s xs) → (a : ℕ) → T (ruled_out_in tests m s a) → T (ruled_out_in tests m (after_all tests m s xs) a)
   lasts_all s [] t a out = out
   lasts_all s (x ∷ xs) t a out =
-      lasts_all (after not_after m s x) xs (and_right (may not_after m s x) (may_all not_after m (after not_after m s x) xs) t) a
-      (lasts laws sound s (after not_after m s x)
-      (grows not_after m s x (and_left (may not_after m s x) (may_all not_after m (after not_after m s x) xs) t)) a out)
+      lasts_all (after tests m s x) xs (and_right (may tests m s x) (may_all tests m (after tests m s x) xs) t) a
+      (lasts laws sound s (after tests m s x)
+      (grows tests m s x (and_left (may tests m s x) (may_all tests m (after tests m s x) xs) t)) a out)
 
-  pub kept_all : (s : State) (xs : List Move) → T (may_all not_after m s xs) → Within s.held (after_all not_after m s xs).held
+  pub kept_all : (s : State) (xs : List Move) → T (may_all tests m s xs) → Within s.held (after_all tests m s xs).held
   kept_all s [] t a h = h
   kept_all s (x ∷ xs) t a h =
-      kept_all (after not_after m s x) xs (and_right (may not_after m s x) (may_all not_after m (after not_after m s x) xs) t) a
-      ((grows not_after m s x (and_left (may not_after m s x) (may_all not_after m (after not_after m s x) xs) t)).kept a h)
+      kept_all (after tests m s x) xs (and_right (may tests m s x) (may_all tests m (after tests m s x) xs) t) a
+      ((grows tests m s x (and_left (may tests m s x) (may_all tests m (after tests m s x) xs) t)).kept a h)

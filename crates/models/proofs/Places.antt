@@ -8,6 +8,7 @@ use Rattle.models.specs.Verdicts.{passes, in_book, is_reading, is_derived, heads
 use Rattle.models.proofs.Truth.{and_in, and_left, and_right, false_out}
 use Rattle.models.proofs.Members.{below_in, below_out}
 use Rattle.models.proofs.Counting.{count_below, count_less}
+use Rattle.stamps.specs.Orders.{IsLawful, Tests}
 
 -- a book of these atoms and rules
 abbrev pub book : {S : Type 0} → List (Atom S) → List (Option Rule) → Meaning S
@@ -102,21 +103,21 @@ module _ {S : Type 0} (m : Meaning S) where
       (and_in (eqb h.rule.head a) (test h.rule) (same_number h.rule.head a h.heads) h.so))
 
 -- the order of stamps, as an order of the book's atoms
-module _ {S : Type 0} {before not_after : S → S → Bool} (laws : Lawful before not_after) (m : Meaning S) where
-  pub reflexive : (a : ℕ) → T (in_book m a) → T (relates not_after m a a)
-  reflexive a t = both_reflexive not_after laws.reflexive m.rules m.atoms a (place m a t)
+module _ {S : Type 0} {tests : Tests S} (laws : IsLawful tests) (m : Meaning S) where
+  pub reflexive : (a : ℕ) → T (in_book m a) → T (relates tests.not_after m a a)
+  reflexive a t = both_reflexive tests.not_after laws.reflexive m.rules m.atoms a (place m a t)
 
   pub irreflexive : (a : ℕ) → T (relates before m a a) → ⊥
   irreflexive a = both_never before laws.irreflexive (stamp_of m a)
 
-  pub transitive : (a b c : ℕ) → T (relates not_after m a b) → T (relates not_after m b c) → T (relates not_after m a c)
-  transitive a b c = both_chains not_after not_after not_after laws.transitive (stamp_of m a) (stamp_of m b) (stamp_of m c)
+  pub transitive : (a b c : ℕ) → T (relates tests.not_after m a b) → T (relates tests.not_after m b c) → T (relates tests.not_after m a c)
+  transitive a b c = both_chains tests.not_after tests tests laws.transitive (stamp_of m a) (stamp_of m b) (stamp_of m c)
 
-  pub strict_left : (a b c : ℕ) → T (relates before m a b) → T (relates not_after m b c) → T (relates before m a c)
-  strict_left a b c = both_chains before not_after before laws.strict_left (stamp_of m a) (stamp_of m b) (stamp_of m c)
+  pub strict_left : (a b c : ℕ) → T (relates before m a b) → T (relates tests.not_after m b c) → T (relates before m a c)
+  strict_left a b c = both_chains tests before laws.strict_left (stamp_of m a) (stamp_of m b) (stamp_of m c)
 
-  pub strict_right : (a b c : ℕ) → T (relates not_after m a b) → T (relates before m b c) → T (relates before m a c)
-  strict_right a b c = both_chains not_after before before laws.strict_right (stamp_of m a) (stamp_of m b) (stamp_of m c)
+  pub strict_right : (a b c : ℕ) → T (relates tests.not_after m a b) → T (relates before m b c) → T (relates before m a c)
+  strict_right a b c = both_chains tests.not_after before before laws.strict_right (stamp_of m a) (stamp_of m b) (stamp_of m c)
 
   strict_both : (a b c : ℕ) → T (relates before m a b) → T (relates before m b c) → T (relates before m a c)
   strict_both a b c =

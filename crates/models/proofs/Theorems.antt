@@ -13,41 +13,42 @@ use Rattle.models.proofs.Keeping.{may_come}
 use Rattle.models.proofs.Progress as progress
 use Rattle.models.proofs.Settling.{model_stable, stable_end, held_in_model, out_of_model}
 use Rattle.models.proofs.Sequences.{after_all-append, may_then}
+use Rattle.stamps.specs.Orders.{IsLawful, Tests}
 
-module _ {S : Type 0} {before not_after : S → S → Bool} (laws : Lawful before not_after) where
-  pub each_has_one_model_lem : EachHasOneModel before not_after
+module _ {S : Type 0} {tests : Tests S} (laws : IsLawful tests) where
+  pub each_has_one_model_lem : EachHasOneModel tests
   each_has_one_model_lem m sound R readings = record {
     stable = model_stable laws sound R readings;
-    only = λ M stable. unique laws sound R M (model_of not_after m R) readings stable (model_stable laws sound R readings);
+    only = λ M stable. unique laws sound R M (model_of tests m R) readings stable (model_stable laws sound R readings);
   }
 
-  pub ruled_out_lasts_lem : RuledOutLasts before not_after
+  pub ruled_out_lasts_lem : RuledOutLasts tests
   ruled_out_lasts_lem m sound moves more run a out =
-      subst (λ (s : State). T (ruled_out_in not_after m s a)) (sym (after_all-append not_after m (start m) moves more))
-      (lasts_all laws sound (reached not_after m moves) more (may_then not_after m (start m) moves more run) a out)
+      subst (λ (s : State). T (ruled_out_in tests m s a)) (sym (after_all-append tests m (start m) moves more))
+      (lasts_all laws sound (reached tests m moves) more (may_then tests m (start m) moves more run) a out)
 
-  pub nothing_taken_back : NothingTakenBack before not_after
+  pub nothing_taken_back : NothingTakenBack tests
   nothing_taken_back m sound moves run R M outcome stable = record {
     held = held_in_model laws sound moves run R M outcome stable;
     out = out_of_model laws sound moves run R M outcome stable;
   }
 
-  pub open_may_come : OpenMayCome before not_after
+  pub open_may_come : OpenMayCome tests
   open_may_come m sound = may_come laws sound
 
-  pub due_gives_safe_lem : DueGivesSafe before not_after
+  pub due_gives_safe_lem : DueGivesSafe tests
   due_gives_safe_lem m sound = progress.something_safe laws sound
 
-  pub sweeping_ends_lem : SweepingEnds before not_after
+  pub sweeping_ends_lem : SweepingEnds tests
   sweeping_ends_lem m sound = progress.sweeping_ends_lem laws sound
 
-  pub end_is_model : EndIsModel before not_after
+  pub end_is_model : EndIsModel tests
   end_is_model m sound moves run shut idle = record {
-    model = stable_end laws sound (reached not_after m moves) (fed_by moves) (founded_run laws sound moves run) idle;
+    model = stable_end laws sound (reached tests m moves) (fed_by moves) (founded_run laws sound moves run) idle;
     same = λ others run' shut' idle' fed.
-        unique laws sound (fed_by moves) (reached not_after m others).held (reached not_after m moves).held
+        unique laws sound (fed_by moves) (reached tests m others).held (reached tests m moves).held
         (founded_run laws sound moves run).readings
-        (subst (λ (R : Set). Stable m R (reached not_after m others).held) (fun_ext fed)
-        (stable_end laws sound (reached not_after m others) (fed_by others) (founded_run laws sound others run') idle'))
-        (stable_end laws sound (reached not_after m moves) (fed_by moves) (founded_run laws sound moves run) idle);
+        (subst (λ (R : Set). Stable m R (reached tests m others).held) (fun_ext fed)
+        (stable_end laws sound (reached tests m others) (fed_by others) (founded_run laws sound others run') idle'))
+        (stable_end laws sound (reached tests m moves) (fed_by moves) (founded_run laws sound moves run) idle);
   }

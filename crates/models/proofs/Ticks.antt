@@ -8,6 +8,7 @@ use Rattle.models.specs.Sets.{Set, every}
 use Rattle.models.specs.Verdicts.{passes, is_derived}
 use Rattle.models.proofs.Places.{book}
 use Rattle.models.proofs.Truth.{and_left, and_right, false_in}
+use Rattle.stamps.specs.Orders.{Tests}
 
 pub ticks : Lawful ltb leb
 ticks = record {
@@ -43,30 +44,30 @@ at_number xs test (None ∷ rs) t (suc k) r e = at_number xs test rs t k r e
 at_number xs test (Some x ∷ rs) t (suc k) r e = at_number xs test rs (and_right (test x) (each_rule test rs) t) k r e
 
 -- what the check accepts, as one test that computes
-module _ {S : Type 0} (before not_after : S → S → Bool) (m : Meaning S) where
+module _ {S : Type 0} (tests : Tests S) (m : Meaning S) where
   abbrev pub few : Rule → Bool
   few r = leb (length r.positives) 6 && leb (length r.negatives) 6
 
   abbrev pub ordered : Rule → Bool
-  ordered r = every (λ a. relates not_after m a r.head) r.positives && every (λ a. relates before m a r.head) r.negatives
+  ordered r = every (λ a. relates tests.not_after m a r.head) r.positives && every (λ a. relates before m a r.head) r.negatives
 
   abbrev pub fits : Rule → Bool
   fits r = few r && (is_derived m r.head && ordered r)
 
-  fits_out : (r : Rule) → T (fits r) → SoundRule before not_after m r
+  fits_out : (r : Rule) → T (fits r) → SoundRule tests m r
   fits_out r t =
       let short = and_left (few r) (is_derived m r.head && ordered r) t in
       let rest = and_right (few r) (is_derived m r.head && ordered r) t in
       let order = and_right (is_derived m r.head) (ordered r) rest in
-      let ps = every (λ a. relates not_after m a r.head) r.positives in
+      let ps = every (λ a. relates tests.not_after m a r.head) r.positives in
       let ns = every (λ a. relates before m a r.head) r.negatives in
       record {
         few_positives = leb→le (length r.positives) 6 (and_left (leb (length r.positives) 6) (leb (length r.negatives) 6) short);
         few_negatives = leb→le (length r.negatives) 6 (and_right (leb (length r.positives) 6) (leb (length r.negatives) 6) short);
         derived = derived_out (reading_of m r.head) (and_left (is_derived m r.head) (ordered r) rest);
-        positives = every_all (λ a. relates not_after m a r.head) r.positives (and_left ps ns order);
+        positives = every_all (λ a. relates tests.not_after m a r.head) r.positives (and_left ps ns order);
         negatives = every_all (λ a. relates before m a r.head) r.negatives (and_right ps ns order);
       }
 
-  pub sound_by : length m.atoms ≤ 1024 → length m.rules ≤ 1024 → T (each_rule fits m.rules) → Sound before not_after m
+  pub sound_by : length m.atoms ≤ 1024 → length m.rules ≤ 1024 → T (each_rule fits m.rules) → Sound tests m
   sound_by a r t = record { few_atoms = a; few_rules = r; rules = λ k x e. fits_out x (at_number m.atoms fits m.rules t k x e) }

@@ -10,6 +10,7 @@ use Rattle.models.proofs.Truth.{same}
 use Rattle.models.proofs.Members.{every_with, some_moved}
 use Rattle.models.proofs.Places.{reading_in_book, derived_in_book, reflexive, transitive, strict_left, depth, deeper}
 use Rattle.models.proofs.Reducts.{closed_in, closed_out}
+use Rattle.stamps.specs.Orders.{IsLawful, Tests}
 
 -- b, which is asked for only where the test passes
 abbrev given : Bool → Bool → Bool
@@ -24,7 +25,7 @@ given_out : (t b : Bool) → T t → T (given t b) → T b
 given_out true b t g = g
 given_out false b t g = absurd t
 
-module _ {S : Type 0} {before not_after : S → S → Bool} (laws : Lawful before not_after) {m : Meaning S} (sound : Sound before not_after m) where
+module _ {S : Type 0} {tests : Tests S} (laws : IsLawful tests) {m : Meaning S} (sound : Sound tests m) where
   -- the head of a rule is in the book and no reading
   pub head_derived : (k : ℕ) (r : Rule) → rule_at m k ≡ Some r → T (is_derived m r.head)
   head_derived k r e = subst (λ (o : Option Bool). T (passes not o)) (sym (sound.rules k r e).derived) tt
@@ -39,20 +40,20 @@ module _ {S : Type 0} {before not_after : S → S → Bool} (laws : Lawful befor
     -- what M has at an atom of the book, N has too, where the two agree before it
     part : (a : ℕ) → T (in_book m a) → ((b : ℕ) → T (relates before m b a) → M b ≡ N b) → T (M a) → T (N a)
     part a there agree h =
-        given_out (relates not_after m a a) (N a) (reflexive laws m a there) (stable_m.least X has (closed_in m M X leads) a h)
+        given_out (relates tests.not_after m a a) (N a) (reflexive laws m a there) (stable_m.least X has (closed_in m M X leads) a h)
       where
         X : Set
-        X b = given (relates not_after m b a) (N b)
+        X b = given (relates tests.not_after m b a) (N b)
 
         has : Within R X
-        has b t = given_in (relates not_after m b a) (N b) (λ _. stable_n.has b t)
+        has b t = given_in (relates tests.not_after m b a) (N b) (λ _. stable_n.has b t)
 
         leads : (k : ℕ) (r : Rule) → rule_at m k ≡ Some r → T (every X r.positives) → (T (some M r.negatives) → ⊥) → T (X r.head)
         leads k r e ps ns =
-            given_in (relates not_after m r.head a) (N r.head) (λ below.
+            given_in (relates tests.not_after m r.head a) (N r.head) (λ below.
             closed_out m N N stable_n.closed k r e
-            (every_with (λ p. T (relates not_after m p r.head)) X N
-            (λ p q x. given_out (relates not_after m p a) (N p) (transitive laws m p r.head a q below) x)
+            (every_with (λ p. T (relates tests.not_after m p r.head)) X N
+            (λ p q x. given_out (relates tests.not_after m p a) (N p) (transitive laws m p r.head a q below) x)
             r.positives (sound.rules k r e).positives ps)
             (λ t. ns (some_moved (λ n. T (relates before m n r.head)) N M
             (λ n q x. subst T (sym (agree n (strict_left laws m n r.head a q below))) x)

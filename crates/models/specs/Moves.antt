@@ -23,36 +23,36 @@ start m = record { held = none; still_open = is_reading m }
 
 -- the move can be made: what is fed or closed is open, what is taken is safe, and a sweep can always be made
 abbrev pub may : {S : Type 0} → (S → S → Bool) → Meaning S → State → Move → Bool
-may not_after m s (feed a) = s.still_open a
-may not_after m s (close a) = s.still_open a
-may not_after m s (take a) = safe not_after m s.held s.still_open a
-may not_after m s sweep = true
+may tests m s (feed a) = s.still_open a
+may tests m s (close a) = s.still_open a
+may tests m s (take a) = safe tests m s.held s.still_open a
+may tests m s sweep = true
 
 -- what is held and still open after the move
 abbrev pub after : {S : Type 0} → (S → S → Bool) → Meaning S → State → Move → State
-after not_after m s (feed a) = record { held = adding a s.held; still_open = removing a s.still_open }
-after not_after m s (close a) = record { held = s.held; still_open = removing a s.still_open }
-after not_after m s (take a) = record { held = adding a s.held; still_open = s.still_open }
-after not_after m s sweep =
-    record { held = λ a. s.held a || safe not_after m s.held s.still_open a; still_open = s.still_open }
+after tests m s (feed a) = record { held = adding a s.held; still_open = removing a s.still_open }
+after tests m s (close a) = record { held = s.held; still_open = removing a s.still_open }
+after tests m s (take a) = record { held = adding a s.held; still_open = s.still_open }
+after tests m s sweep =
+    record { held = λ a. s.held a || safe tests m s.held s.still_open a; still_open = s.still_open }
 
 -- the state after moves, one after the other
 abbrev pub after_all : {S : Type 0} → (S → S → Bool) → Meaning S → State → List Move → State
-after_all not_after m s [] = s
-after_all not_after m s (x ∷ xs) = after_all not_after m (after not_after m s x) xs
+after_all tests m s [] = s
+after_all tests m s (x ∷ xs) = after_all tests m (after tests m s x) xs
 
 -- each of the moves can be made where it comes
 abbrev pub may_all : {S : Type 0} → (S → S → Bool) → Meaning S → State → List Move → Bool
-may_all not_after m s [] = true
-may_all not_after m s (x ∷ xs) = may not_after m s x && may_all not_after m (after not_after m s x) xs
+may_all tests m s [] = true
+may_all tests m s (x ∷ xs) = may tests m s x && may_all tests m (after tests m s x) xs
 
 -- the moves of a run: each can be made where it comes, from the start on
 abbrev pub Run : {S : Type 0} → (S → S → Bool) → Meaning S → List Move → Type 0
-Run not_after m xs = T (may_all not_after m (start m) xs)
+Run tests m xs = T (may_all tests m (start m) xs)
 
 -- the state that a run's moves lead to
 abbrev pub reached : {S : Type 0} → (S → S → Bool) → Meaning S → List Move → State
-reached not_after m xs = after_all not_after m (start m) xs
+reached tests m xs = after_all tests m (start m) xs
 
 -- so many sweeps
 abbrev pub sweeps : ℕ → List Move
@@ -93,7 +93,7 @@ NothingDue m s = Empty (due m s.held)
 
 -- the atom is ruled out in that state
 abbrev pub ruled_out_in : {S : Type 0} → (S → S → Bool) → Meaning S → State → Set
-ruled_out_in not_after m s = ruled_out not_after m s.held s.still_open
+ruled_out_in tests m s = ruled_out tests m s.held s.still_open
 
 -- a possible outcome of a run: a set of readings with all the fed and none of the closed
 pub record Outcome {S : Type 0} (m : Meaning S) (moves : List Move) (readings : Set) : Type 0 where
@@ -107,4 +107,4 @@ decided readings s = record { held = λ a. s.held a || s.still_open a && reading
 
 -- the stable model, computed: decide every reading, then sweep as often as there are atoms
 abbrev pub model_of : {S : Type 0} → (S → S → Bool) → Meaning S → Set → Set
-model_of not_after m readings = (after_all not_after m (decided readings (start m)) (sweeps (length m.atoms))).held
+model_of tests m readings = (after_all tests m (decided readings (start m)) (sweeps (length m.atoms))).held

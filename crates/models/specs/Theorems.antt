@@ -6,65 +6,66 @@ use Rattle.models.specs.Sets.{Set, Within, Same, Empty}
 use Rattle.models.specs.Verdicts.{due, safe}
 use Rattle.models.specs.Stability.{ReadingsOf, Stable}
 use Rattle.models.specs.Moves.{State, Move, after_all, Run, reached, sweeps, fed_by, Outcome, NothingOpen, NothingDue, ruled_out_in, model_of}
+use Rattle.stamps.specs.Orders.{Tests}
 
 -- the computed model is stable for the readings, and no other set is
 pub record OneModel {S : Type 0} (not_after : S → S → Bool) (m : Meaning S) (readings : Set) : Type 0 where
-  pub stable : Stable m readings (model_of not_after m readings)
-  pub only : (M : Set) → Stable m readings M → Same M (model_of not_after m readings)
+  pub stable : Stable m readings (model_of tests m readings)
+  pub only : (M : Set) → Stable m readings M → Same M (model_of tests m readings)
 
 -- Every set of readings of the book has exactly one stable model.
 -- For a planner: once it is known which readings come, the book says of each atom yes or no, and never two things.
-abbrev pub EachHasOneModel : {S : Type 0} → (S → S → Bool) → (S → S → Bool) → Type 0
-EachHasOneModel {S} before not_after = (m : Meaning S) → Sound before not_after m → (readings : Set) → ReadingsOf m readings → OneModel not_after m readings
+abbrev pub EachHasOneModel : {S : Type 0} → Tests S → Type 0
+EachHasOneModel {S} tests = (m : Meaning S) → Sound tests m → (readings : Set) → ReadingsOf m readings → OneModel tests m readings
 
 -- An atom that is ruled out after some moves is ruled out after any moves that follow.
 -- For a crew: a "no" that was told is kept, whatever is fed, closed or taken later.
-abbrev pub RuledOutLasts : {S : Type 0} → (S → S → Bool) → (S → S → Bool) → Type 0
-RuledOutLasts {S} before not_after =
-    (m : Meaning S) → Sound before not_after m → (moves more : List Move) → Run not_after m (moves ++ more) → (a : ℕ) →
-    T (ruled_out_in not_after m (reached not_after m moves) a) → T (ruled_out_in not_after m (reached not_after m (moves ++ more)) a)
+abbrev pub RuledOutLasts : {S : Type 0} → Tests S → Type 0
+RuledOutLasts {S} tests =
+    (m : Meaning S) → Sound tests m → (moves more : List Move) → Run tests m (moves ++ more) → (a : ℕ) →
+    T (ruled_out_in tests m (reached tests m moves) a) → T (ruled_out_in tests m (reached tests m (moves ++ more)) a)
 
 -- Whichever of the open readings come, they and the fed ones are a possible outcome.
 -- For a planner: of an open reading nothing is known yet, and there is always an outcome that what is told must be right for.
-abbrev pub OpenMayCome : {S : Type 0} → (S → S → Bool) → (S → S → Bool) → Type 0
-OpenMayCome {S} before not_after =
-    (m : Meaning S) → Sound before not_after m → (moves : List Move) → Run not_after m moves → (come : Set) →
-    Within come (reached not_after m moves).still_open → Outcome m moves (λ a. fed_by moves a || come a)
+abbrev pub OpenMayCome : {S : Type 0} → Tests S → Type 0
+OpenMayCome {S} tests =
+    (m : Meaning S) → Sound tests m → (moves : List Move) → Run tests m moves → (come : Set) →
+    Within come (reached tests m moves).still_open → Outcome m moves (λ a. fed_by moves a || come a)
 
 -- what the state says of a set M: all that is held is in M, and nothing that is ruled out is
 pub record TrueOf {S : Type 0} (not_after : S → S → Bool) (m : Meaning S) (s : State) (M : Set) : Type 0 where
   pub held : Within s.held M
-  pub out : (a : ℕ) → T (ruled_out_in not_after m s a) → M a ≡ false
+  pub out : (a : ℕ) → T (ruled_out_in tests m s a) → M a ≡ false
 
 -- After any moves of a run, and for every set of readings with all the fed and none of the closed: each held atom is in its stable model, and no ruled out atom is.
 -- For a crew: what is held or ruled out while readings are still open is right however these turn out, so a shuttle may move on it.
-abbrev pub NothingTakenBack : {S : Type 0} → (S → S → Bool) → (S → S → Bool) → Type 0
-NothingTakenBack {S} before not_after =
-    (m : Meaning S) → Sound before not_after m → (moves : List Move) → Run not_after m moves → (readings M : Set) →
-    Outcome m moves readings → Stable m readings M → TrueOf not_after m (reached not_after m moves) M
+abbrev pub NothingTakenBack : {S : Type 0} → Tests S → Type 0
+NothingTakenBack {S} tests =
+    (m : Meaning S) → Sound tests m → (moves : List Move) → Run tests m moves → (readings M : Set) →
+    Outcome m moves readings → Stable m readings M → TrueOf tests m (reached tests m moves) M
 
 -- With nothing open, whatever is held: if some atom is due, some atom is safe.
 -- For a crew: once the last reading is fed or closed, work never stands still with something left to do.
-abbrev pub DueGivesSafe : {S : Type 0} → (S → S → Bool) → (S → S → Bool) → Type 0
-DueGivesSafe {S} before not_after =
-    (m : Meaning S) → Sound before not_after m → (held still_open : Set) → Empty still_open →
-    (a : ℕ) → T (due m held a) → (b : ℕ) × T (safe not_after m held still_open b)
+abbrev pub DueGivesSafe : {S : Type 0} → Tests S → Type 0
+DueGivesSafe {S} tests =
+    (m : Meaning S) → Sound tests m → (held still_open : Set) → Empty still_open →
+    (a : ℕ) → T (due m held a) → (b : ℕ) × T (safe tests m held still_open b)
 
 -- With nothing open, whatever is held: after as many sweeps as there are atoms, nothing is due.
 -- For a planner: no more sweeps are ever needed than the book has atoms.
-abbrev pub SweepingEnds : {S : Type 0} → (S → S → Bool) → (S → S → Bool) → Type 0
-SweepingEnds {S} before not_after =
-    (m : Meaning S) → Sound before not_after m → (s : State) → NothingOpen s → NothingDue m (after_all not_after m s (sweeps (length m.atoms)))
+abbrev pub SweepingEnds : {S : Type 0} → Tests S → Type 0
+SweepingEnds {S} tests =
+    (m : Meaning S) → Sound tests m → (s : State) → NothingOpen s → NothingDue m (after_all tests m s (sweeps (length m.atoms)))
 
 -- how a run ends: in the stable model of what it fed, as does every other run that fed the same
 pub record EndsInModel {S : Type 0} (not_after : S → S → Bool) (m : Meaning S) (moves : List Move) : Type 0 where
-  pub model : Stable m (fed_by moves) (reached not_after m moves).held
-  pub same : (others : List Move) → Run not_after m others → NothingOpen (reached not_after m others) → NothingDue m (reached not_after m others) →
-      Same (fed_by others) (fed_by moves) → Same (reached not_after m others).held (reached not_after m moves).held
+  pub model : Stable m (fed_by moves) (reached tests m moves).held
+  pub same : (others : List Move) → Run tests m others → NothingOpen (reached tests m others) → NothingDue m (reached tests m others) →
+      Same (fed_by others) (fed_by moves) → Same (reached tests m others).held (reached tests m moves).held
 
 -- A run with nothing due and nothing open holds exactly the stable model of the readings that it fed.
 -- For a planner: the order in which readings come and atoms are taken or swept makes no difference to where a run ends.
-abbrev pub EndIsModel : {S : Type 0} → (S → S → Bool) → (S → S → Bool) → Type 0
-EndIsModel {S} before not_after =
-    (m : Meaning S) → Sound before not_after m → (moves : List Move) → Run not_after m moves →
-    NothingOpen (reached not_after m moves) → NothingDue m (reached not_after m moves) → EndsInModel not_after m moves
+abbrev pub EndIsModel : {S : Type 0} → Tests S → Type 0
+EndIsModel {S} tests =
+    (m : Meaning S) → Sound tests m → (moves : List Move) → Run tests m moves →
+    NothingOpen (reached tests m moves) → NothingDue m (reached tests m moves) → EndsInModel tests m moves

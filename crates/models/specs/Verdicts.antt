@@ -44,20 +44,20 @@ pending m held still_open a = due m held a || still_open a
 
 -- the atom is due or still open, and its stamp is not after that of one of the rule's negatives
 unfoldable pub blocks : {S : Type 0} → (S → S → Bool) → Meaning S → Set → Set → Rule → Set
-blocks not_after m held still_open r b = pending m held still_open b && some (relates not_after m b) r.negatives
+blocks tests m held still_open r b = pending m held still_open b && some (relates tests.not_after m b) r.negatives
 
 -- some atom of the book blocks the rule
 unfoldable pub blocked : {S : Type 0} → (S → S → Bool) → Meaning S → Set → Set → Rule → Bool
-blocked not_after m held still_open r = some_below (length m.atoms) (blocks not_after m held still_open r)
+blocked tests m held still_open r = some_below (length m.atoms) (blocks tests m held still_open r)
 
 -- the atom is due, and at least one ready rule with that head has no blocker
 unfoldable pub safe : {S : Type 0} → (S → S → Bool) → Meaning S → Set → Set → Set
-safe not_after m held still_open a = due m held a && heads_some m (λ r. ready m held r && not (blocked not_after m held still_open r)) a
+safe tests m held still_open a = due m held a && heads_some m (λ r. ready m held r && not (blocked tests m held still_open r)) a
 
 -- some atom that is due or still open has a stamp not after the atom's own
 unfoldable pub awaited : {S : Type 0} → (S → S → Bool) → Meaning S → Set → Set → Set
-awaited not_after m held still_open a = some_below (length m.atoms) (λ b. pending m held still_open b && relates not_after m b a)
+awaited tests m held still_open a = some_below (length m.atoms) (λ b. pending m held still_open b && relates tests.not_after m b a)
 
 -- the atom is not held, and no due atom and no open reading has a stamp not after its own
 unfoldable pub ruled_out : {S : Type 0} → (S → S → Bool) → Meaning S → Set → Set → Set
-ruled_out not_after m held still_open a = not (holds m held a) && not (awaited not_after m held still_open a)
+ruled_out tests m held still_open a = not (holds m held a) && not (awaited tests m held still_open a)

@@ -11,34 +11,34 @@ use stamps::order::Order;
 
 // Every set of readings of a checked book has exactly one stable model, and sweeping computes it.
 pub fn each_has_one_model<O: Order>()
-    ensures { EachHasOneModel O.Order.is_before O.Order.is_not_after }
+    ensures { EachHasOneModel O.Order.tests }
 {}
 
 // An atom once ruled out stays ruled out, whatever moves follow.
 pub fn ruled_out_lasts<O: Order>()
-    ensures { RuledOutLasts O.Order.is_before O.Order.is_not_after }
+    ensures { RuledOutLasts O.Order.tests }
 {}
 
 // Each held atom is in the stable model of every possible outcome, and each ruled out atom is in none;
 // and whichever of the open readings come, they and the fed ones are such an outcome.
 pub fn nothing_is_taken_back<O: Order>()
-    ensures possible { OpenMayCome O.Order.is_before O.Order.is_not_after }
-    ensures told { NothingTakenBack O.Order.is_before O.Order.is_not_after }
+    ensures possible { OpenMayCome O.Order.tests }
+    ensures told { NothingTakenBack O.Order.tests }
 {}
 
 // With nothing open, something due gives something safe.
 pub fn due_gives_safe<O: Order>()
-    ensures { DueGivesSafe O.Order.is_before O.Order.is_not_after }
+    ensures { DueGivesSafe O.Order.tests }
 {}
 
 // With nothing open, as many sweeps as there are atoms leave nothing due.
 pub fn sweeping_ends<O: Order>()
-    ensures { SweepingEnds O.Order.is_before O.Order.is_not_after }
+    ensures { SweepingEnds O.Order.tests }
 {}
 
 // With nothing due and nothing open the held set is the stable model of the fed readings, in whatever order the moves came.
 pub fn end_is_the_model<O: Order>()
-    ensures { EndIsModel O.Order.is_before O.Order.is_not_after }
+    ensures { EndIsModel O.Order.tests }
 {}
 
 // Looking for blockers only strictly before the negative is wrong, and so is comparing them with the head.

@@ -1,23 +1,19 @@
 -- A route as a set of aisles, and what it means that one is part of another.
-use Rattle.std.specs.Prelude.{ℕ, zero, suc, Bool, true, not, ◌&&◌, ◌||◌}
-use Rattle.words.specs.Bits.{has_bit}
+use Rattle.std.specs.Prelude.{ℕ, Bool, not, ◌&&◌, ◌||◌, ◌==◌}
+use Rattle.std.specs.Int.{bit_at}
+use Rattle.std.specs.List.{list_all, range_with_len}
 
 -- bit k of the mask says whether the route has aisle k
 abbrev pub has_aisle : ℕ → ℕ → Bool
-has_aisle mask k = has_bit mask k
+has_aisle mask k = bit_at mask k == 1
 
 -- if the first route has aisle k, so has the second
 abbrev pub shares_aisle : ℕ → ℕ → ℕ → Bool
 shares_aisle a b k = not (has_aisle a k) || has_aisle b k
 
--- the same of each aisle below a number
-unfoldable pub shares_below : ℕ → ℕ → ℕ → Bool
-shares_below a b zero = true
-shares_below a b (suc k) = shares_aisle a b k && shares_below a b k
-
 -- each aisle of the first route, of 0 to 63, is one of the second
 unfoldable pub part_of : ℕ → ℕ → Bool
-part_of a b = shares_below a b 64
+part_of a b = list_all (shares_aisle a b) (range_with_len 0 64)
 
 -- part of, and not equal
 abbrev pub proper_part : ℕ → ℕ → Bool

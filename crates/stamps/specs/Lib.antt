@@ -1,3 +1,5 @@
-pub mod Levels
 pub mod Aisles
+pub mod Orders
 pub mod Parts
+pub mod Laws
+pub mod Kinds

@@ -1,8 +1,8 @@
 // Routes, ordered by the aisles that they have.
 ghost use Rattle.std.specs.Prelude.{◌≡◌};
-ghost use Rattle.stamps.specs.Aisles.{part_of, proper_part};
-ghost use Rattle.stamps.specs.Parts.{part_self, part_trans, proper_left, proper_right};
-ghost use Rattle.std.proofs.Common.{rules};
+ghost use Rattle.stamps.specs.Aisles.{part_of};
+ghost use Rattle.stamps.specs.Laws.{route_lawful};
+ghost use Rattle.stamps.specs.Orders.{route_tests};
 
 use crate::order::Order;
 
@@ -13,6 +13,7 @@ pub struct Route {
 }
 
 // Whether each aisle of the first set is one of the second.
+#[tactic(auto, using(crate::specs::Parts::part_mask))]
 fn is_part(a: u64, b: u64) -> bool
     ensures { result ≡ part_of a b }
 {
@@ -21,21 +22,9 @@ fn is_part(a: u64, b: u64) -> bool
 
 // A route is not after those that have all its aisles, and before those that have more besides.
 impl Order for Route {
-    ghost is_before = { λ a b. proper_part a.aisles b.aisles };
+    ghost tests = { route_tests (λ a. a.aisles) };
 
-    ghost is_not_after = { λ a b. part_of a.aisles b.aisles };
-
-    ghost reflexive = { λ a. part_self a.aisles };
-
-    ghost irreflexive = { Prim.search rules };
-
-    ghost transitive = { λ a b c. part_trans a.aisles b.aisles c.aisles };
-
-    ghost weakens = { Prim.search rules };
-
-    ghost strict_left = { λ a b c. proper_left a.aisles b.aisles c.aisles };
-
-    ghost strict_right = { λ a b c. proper_right a.aisles b.aisles c.aisles };
+    ghost lawful = { route_lawful (λ a. a.aisles) };
 
     fn before(&self, other: &Self) -> bool {
         self.not_after(other) && !other.not_after(self)

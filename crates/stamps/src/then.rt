@@ -1,7 +1,7 @@
 // One order, and then another where the first leaves two stamps level.
-ghost use Rattle.std.specs.Prelude.{◌≡◌, ◌&&◌, ◌||◌};
-ghost use Rattle.stamps.specs.Levels.{level};
-ghost use Rattle.std.proofs.Common.{rules};
+ghost use Rattle.std.specs.Prelude.{◌≡◌};
+ghost use Rattle.stamps.specs.Laws.{then_lawful};
+ghost use Rattle.stamps.specs.Orders.{level, then_tests};
 
 use crate::order::Order;
 use std::fmt;
@@ -9,7 +9,7 @@ use std::fmt::Display;
 
 // Whether each of two stamps is not after the other.
 pub fn are_level<S: Order>(a: &S, b: &S) -> bool
-    ensures { result ≡ level S.Order.is_not_after a.now b.now }
+    ensures { result ≡ level S.Order.tests a.now b.now }
 {
     a.not_after(b) && b.not_after(a)
 }
@@ -22,21 +22,9 @@ pub struct Then<X, Y> {
 
 // First parts decide; where they are level, the second parts do.
 impl<X: Order, Y: Order> Order for Then<X, Y> {
-    ghost is_before = { λ a b. X.Order.is_before a.first b.first || (level X.Order.is_not_after a.first b.first && Y.Order.is_before a.second b.second) };
+    ghost tests = { then_tests X.Order.tests Y.Order.tests (λ a. a.first) (λ a. a.second) };
 
-    ghost is_not_after = { λ a b. X.Order.is_before a.first b.first || (level X.Order.is_not_after a.first b.first && Y.Order.is_not_after a.second b.second) };
-
-    ghost reflexive = { Prim.search rules };
-
-    ghost irreflexive = { Prim.search rules };
-
-    ghost transitive = { Prim.search rules };
-
-    ghost weakens = { Prim.search rules };
-
-    ghost strict_left = { Prim.search rules };
-
-    ghost strict_right = { Prim.search rules };
+    ghost lawful = { then_lawful X.Order.tests Y.Order.tests (λ a. a.first) (λ a. a.second) X.Order.lawful Y.Order.lawful };
 
     fn before(&self, other: &Self) -> bool {
         self.first.before(&other.first)

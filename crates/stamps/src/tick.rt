@@ -1,6 +1,6 @@
 // Ticks of the clock, the order of numbers.
-ghost use Rattle.std.specs.Prelude.{nat_le, nat_lt};
-ghost use Rattle.std.proofs.Common.{rules};
+ghost use Rattle.stamps.specs.Laws.{tick_lawful};
+ghost use Rattle.stamps.specs.Orders.{tick_tests};
 
 use crate::order::Order;
 use std::fmt;
@@ -10,21 +10,9 @@ use std::fmt;
 pub struct Tick(pub u32);
 
 impl Order for Tick {
-    ghost is_before = { λ a b. nat_lt a.0 b.0 };
+    ghost tests = { tick_tests (λ a. a.0) };
 
-    ghost is_not_after = { λ a b. nat_le a.0 b.0 };
-
-    ghost reflexive = { Prim.search rules };
-
-    ghost irreflexive = { Prim.search rules };
-
-    ghost transitive = { Prim.search rules };
-
-    ghost weakens = { Prim.search rules };
-
-    ghost strict_left = { Prim.search rules };
-
-    ghost strict_right = { Prim.search rules };
+    ghost lawful = { tick_lawful (λ a. a.0) };
 
     fn before(&self, other: &Self) -> bool {
         self.0 < other.0

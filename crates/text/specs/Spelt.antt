@@ -1,8 +1,8 @@
 -- The canonical spelling of a book: no leading zeros.
 use Rattle.std.specs.Prelude.{ℕ, zero, suc, ◌/◌, ◌%◌, ◌^◌, ◌≤◌, Bool, cond, List, [], ◌++◌, length, Some, None, codes, decimal, Option, ◌==◌}
 use Rattle.std.specs.List.{slice_get}
-use Rattle.std.specs.Option.{option_map}
-use Rattle.books.specs.Meaning.{Rule, Atom, Meaning, bind_some, rule_at}
+use Rattle.books.specs.Meaning.{Rule, Atom, Meaning, rule_at, of_sign}
+use Rattle.books.specs.declared.book.Sign.{Sign}
 use Rattle.stamps.specs.declared.tick.Tick.{Tick}
 use Rattle.stamps.specs.declared.route.Route.{Route}
 use Rattle.stamps.specs.declared.then.Then.{Then}
@@ -83,18 +83,11 @@ unfoldable pub book_text : {S : Type 0} → List ℕ → (S → List ℕ) → Me
 book_text spelling spelt m =
     order_opening ++ spelling ++ closing ++ up_to (atom_line_of spelt m) (length m.atoms) ++ up_to (rule_line_of m) (length m.rules) ++ end_text
 
--- a rule's positives, or its negatives; a vacant number has none
-abbrev pub body_in : Bool → Option Rule → List ℕ
-body_in positive None = []
-body_in positive (Some r) = cond positive r.positives r.negatives
+-- a rule's list of that sign; a vacant number has none
+abbrev pub body_in : Sign → Option Rule → List ℕ
+body_in sign None = []
+body_in sign (Some r) = of_sign sign r
 
 -- each rule has six positives and six negatives at most
 abbrev pub Few : {S : Type 0} → Meaning S → Type 0
-Few m = (k : ℕ) (positive : Bool) → length (body_in positive (rule_at m k)) ≤ 6
-
--- TEMP
-abbrev pub literal_in : Bool → Option Rule → ℕ → Option ℕ
-literal_in positive o i = bind_some (λ (r : Rule). slice_get (cond positive r.positives r.negatives) i) o
-
-abbrev pub count_in : Bool → Option Rule → Option ℕ
-count_in positive o = option_map (λ (r : Rule). length (cond positive r.positives r.negatives)) o
+Few m = (k : ℕ) (sign : Sign) → length (body_in sign (rule_at m k)) ≤ 6

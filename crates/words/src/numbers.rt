@@ -6,8 +6,9 @@ ghost use Rattle.words.specs.Members.{has_number, with_number};
 pub fn has(words: &[u64], n: usize) -> bool
     ensures { result ≡ has_number words.now n }
 {
-    let word = n / 64;
-    word < words.len() && (words[word] >> (n % 64)) % 2 == 1
+    words
+        .get(n / 64)
+        .is_some_and(|word| word >> (n % 64) & 1 == 1)
 }
 
 // Puts the number into the set; one beyond the words changes nothing.
@@ -16,6 +17,7 @@ pub fn add(words: &mut [u64], n: usize)
     ensures only { n / 64 < length words.old → (k : ℕ) → has_number words.new k ≡ (k == n || has_number words.old k) }
 {
     let word = n / 64;
+    // `get_mut` with `if let` loses in the proof what was written, so the word is named by its index.
     if word < words.len() {
         words[word] |= 1 << (n % 64);
     }

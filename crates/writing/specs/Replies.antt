@@ -23,6 +23,7 @@ use Rattle.text.specs.Forms.{closing}
 use Rattle.text.specs.Reads.{book_at, room_of}
 use Rattle.text.specs.Spelt.{book_text, space, tick_text, route_text, pair_text}
 use Rattle.writing.specs.Writes.{book_gap, write_answer}
+use Rattle.stamps.specs.Orders.{Tests}
 
 -- how a refusal begins
 abbrev pub no_opening : List ℕ
@@ -38,15 +39,15 @@ abbrev pub refusal_text : Refusal → List ℕ
 refusal_text f = no_opening ++ decimal f.number ++ space ++ values_text f.values ++ closing
 
 -- a book's canonical text, where the check accepts the book and the text has room
-abbrev pub checked_text : {S : Type 0} → List ℕ → (S → List ℕ) → (S → S → Bool) → (S → S → Bool) → Meaning S → ℕ → Result (List ℕ) Fault
-checked_text spelling spelt before not_after m room =
-    and_then (unless (book_fault before not_after m))
+abbrev pub checked_text : {S : Type 0} → List ℕ → (S → List ℕ) → Tests S → Meaning S → ℕ → Result (List ℕ) Fault
+checked_text spelling spelt tests m room =
+    and_then (unless (book_fault tests m))
     (λ _. and_then (write_answer (book_gap m) (length (book_text spelling spelt m)) room) (λ _. Ok (book_text spelling spelt m)))
 
 -- the canonical text of a text, where it is read and its book is accepted
-abbrev pub canonical_at : {S : Type 0} → (List ℕ → ℕ → Result (S × ℕ) Fault) → List ℕ → (S → List ℕ) → (S → S → Bool) → (S → S → Bool) → List ℕ → ℕ → ℕ → ℕ → Result (List ℕ) Fault
-canonical_at stamp_at spelling spelt before not_after text atoms rules room =
-    and_then (book_at stamp_at spelling text (room_of atoms rules)) (λ m. checked_text spelling spelt before not_after m room)
+abbrev pub canonical_at : {S : Type 0} → (List ℕ → ℕ → Result (S × ℕ) Fault) → List ℕ → (S → List ℕ) → Tests S → List ℕ → ℕ → ℕ → ℕ → Result (List ℕ) Fault
+canonical_at stamp_at spelling spelt tests text atoms rules room =
+    and_then (book_at stamp_at spelling text (room_of atoms rules)) (λ m. checked_text spelling spelt tests m room)
 
 -- the length of what is found
 abbrev pub length_of : Result (List ℕ) Fault → Result ℕ Fault

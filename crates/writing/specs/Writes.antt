@@ -1,7 +1,8 @@
 -- What the writer of a book refuses, and what the sheet then holds.
 use Rattle.std.specs.Prelude.{ℕ, ◌+◌, cond, ◌||◌, List, ◌++◌, length, drop, is_some, Some, None, Ok, Err, Option, Result, nat_lt}
 use Rattle.books.specs.Check.{first_below}
-use Rattle.books.specs.Meaning.{Meaning, bind_some, rule_at, stamp_of, literal_of}
+use Rattle.std.specs.Option.{option_and_then}
+use Rattle.books.specs.Meaning.{Meaning, rule_at, stamp_of, literal_of}
 use Rattle.books.specs.declared.fault.CheckFault.{CheckFault}
 use Rattle.books.specs.declared.fault.CheckFault.TheVariants.{TooLarge, BodyTooLong, HeadMissing, LiteralMissing, SheetTooShort}
 use Rattle.books.specs.declared.fault.Fault.{Fault}
@@ -13,12 +14,12 @@ missing m f a = cond (is_some (stamp_of m a)) None (Some f)
 
 -- the fault of literal i + 1 of rule k
 abbrev pub literal_gap : {S : Type 0} → Meaning S → ℕ → ℕ → Option CheckFault
-literal_gap m k i = bind_some (missing m (LiteralMissing k (i + 1))) (literal_of m k i)
+literal_gap m k i = option_and_then (missing m (LiteralMissing k (i + 1))) (literal_of m k i)
 
 -- the first fault of the rule of number k: lengths, head, then the literals
 abbrev pub rule_gap : {S : Type 0} → Meaning S → ℕ → Option CheckFault
 rule_gap m k =
-    bind_some
+    option_and_then
     (λ r. cond (nat_lt 6 (length r.positives) || nat_lt 6 (length r.negatives))
     (Some (BodyTooLong k))
     (cond (is_some (stamp_of m r.head))

@@ -15,7 +15,7 @@ use text::stamp::Spelled;
 pub fn write_checked<B: Book>(book: &B, sheet: &mut [u8]) -> Result<usize, Fault>
 where
     B::Stamp: Spelled,
-    ensures { Replied (checked_text B.Stamp.Spelled.spelling B.Stamp.Spelled.spelt B.Stamp.Order.is_before B.Stamp.Order.is_not_after (B.Book.meaning book.now) (length sheet.old)) result sheet.old sheet.new }
+    ensures { Replied (checked_text B.Stamp.Spelled.spelling B.Stamp.Spelled.spelt B.Stamp.Order.tests (B.Book.meaning book.now) (length sheet.old)) result sheet.old sheet.new }
 {
     check(book)?;
     write(book, sheet)
@@ -36,7 +36,7 @@ pub fn canonical<S: Spelled>(
     rules: &mut [Option<RuleRow>],
     sheet: &mut [u8],
 ) -> Result<usize, Fault>
-    ensures { Replied (canonical_at S.Spelled.stamp_at S.Spelled.spelling S.Spelled.spelt S.Order.is_before S.Order.is_not_after text.now (length atoms.old) (length rules.old) (length sheet.old)) result sheet.old sheet.new }
+    ensures { Replied (canonical_at S.Spelled.stamp_at S.Spelled.spelling S.Spelled.spelt S.Order.tests text.now (length atoms.old) (length rules.old) (length sheet.old)) result sheet.old sheet.new }
 {
     let counts = read::<S>(text, atoms, rules)?;
     let book = Flat {

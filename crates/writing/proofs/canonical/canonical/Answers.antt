@@ -20,13 +20,13 @@ returns-in_err-counts g c =
     let p = err_from_is_err_and c.from_residual.result c.from_residual.ensures.1 in
     let e = taken_refused c.args.atoms.now c.read.new.atoms c.args.rules.now c.read.new.rules _ _ c.in_err-counts.ensures in
     replied_refused _ _ c.args.sheet.now c.from_residual.result
-    (ap (λ r. and_then r (λ m. checked_text g.S.Spelled.spelling g.S.Spelled.spelt g.S.Order.is_before g.S.Order.is_not_after m (length c.args.sheet.now))) e)
+    (ap (λ r. and_then r (λ m. checked_text g.S.Spelled.spelling g.S.Spelled.spelt g.S.Order.tests m (length c.args.sheet.now))) e)
     (p.1 ∙ ap Err p.2)
 
 pub returns : goal.returns
 returns g c =
     let n = c.in_ok-counts.counts in
-    let text : Meaning g.row.S.Denot → Result (List ℕ) Fault = λ m. checked_text g.S.Spelled.spelling g.S.Spelled.spelt g.S.Order.is_before g.S.Order.is_not_after m (length c.args.sheet.now) in
+    let text : Meaning g.row.S.Denot → Result (List ℕ) Fault = λ m. checked_text g.S.Spelled.spelling g.S.Spelled.spelt g.S.Order.tests m (length c.args.sheet.now) in
     let t = taken c.args.atoms.now c.read.new.atoms c.args.rules.now c.read.new.rules _ n c.in_ok-counts.ensures in
     replied_as _ _ _ _ _
     (ap (λ xs. text (flat_meaning xs c.front-2.result.now)) c.front.ensures

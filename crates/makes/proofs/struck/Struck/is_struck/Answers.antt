@@ -6,5 +6,5 @@ pub returns : goal.returns
 returns g c =
     record {
       answer = c.has.ensures;
-      stands = stands_over g.B.Stamp.Order.is_before g.B.Stamp.Order.is_not_after (g.B.Book.meaning c.args.self.now.below) (has_number c.args.self.now.words);
+      stands = stands_over g.B.Stamp.Order.tests (g.B.Book.meaning c.args.self.now.below) (has_number c.args.self.now.words);
     }
