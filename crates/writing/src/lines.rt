@@ -2,35 +2,20 @@
 ghost use Rattle.std.specs.Prelude.{◌≡◌, ◌+◌, ◌^◌, ◌<◌, ◌≤◌, length, None};
 ghost use Rattle.std.specs.List.{slice_get};
 ghost use Rattle.books.specs.Meaning.{rule_at};
-ghost use Rattle.text.specs.Spelt.{up_to, item, list_text, body_in, literal_in, count_in, Few, kind_text, atom_text, rule_text, atom_line_of, rule_line_of, book_text};
+ghost use Rattle.text.specs.Spelt.{up_to, item, list_text, body_in, Few, kind_text, atom_text, rule_text, atom_line_of, rule_line_of, book_text};
 ghost use Rattle.text.specs.Written.{Wrote, Writes};
 
-use books::book::Book;
+use books::book::{Book, Sign};
 use text::sheet::Sheet;
 use text::stamp::Spelled;
 
-// Number `i` of the rule's positives, or of its negatives.
-fn literal_in<B: Book>(book: &B, rule: usize, positive: bool, i: usize) -> Option<usize>
-    ensures { result ≡ literal_in positive (rule_at (B.Book.meaning book.now) rule) i }
-{
-    if positive {
-        book.positive(rule, i)
-    } else {
-        book.negative(rule, i)
-    }
-}
-
-// How many positives the rule has, or negatives; none where its number is vacant.
-fn count_in<B: Book>(book: &B, rule: usize, positive: bool) -> usize
+// How many atoms of the sign the rule has; none where its number is vacant.
+fn count_in<B: Book>(book: &B, rule: usize, sign: Sign) -> usize
     requires { Few (B.Book.meaning book.now) }
-    ensures value { result ≡ length (body_in positive (rule_at (B.Book.meaning book.now) rule)) }
+    ensures value { result ≡ length (body_in sign (rule_at (B.Book.meaning book.now) rule)) }
     ensures few { result ≤ 6 }
 {
-    if positive {
-        book.positive_count(rule).unwrap_or(0)
-    } else {
-        book.negative_count(rule).unwrap_or(0)
-    }
+    book.body_count(rule, sign).unwrap_or(0)
 }
 
 // Number `i` of a list, after a space unless it is the first.
@@ -44,16 +29,16 @@ fn put_item(i: usize, atom: Option<usize>, sheet: &mut Sheet<'_>)
     }
 }
 
-// The rule's positives or negatives, in brackets.
-fn put_body<B: Book>(book: &B, rule: usize, positive: bool, sheet: &mut Sheet<'_>)
+// The rule's atoms of the sign, in brackets.
+fn put_body<B: Book>(book: &B, rule: usize, sign: Sign, sheet: &mut Sheet<'_>)
     requires early { sheet.old.at < 2 ^ 59 }
     requires few { Few (B.Book.meaning book.now) }
-    ensures wrote { Writes sheet.old (list_text (body_in positive (rule_at (B.Book.meaning book.now) rule))) sheet.new }
+    ensures wrote { Writes sheet.old (list_text (body_in sign (rule_at (B.Book.meaning book.now) rule))) sheet.new }
     ensures short { sheet.new.at ≤ sheet.old.at + 128 }
 {
     sheet.put(b"(");
-    for i in 0..count_in(book, rule, positive) {
-        put_item(i, literal_in(book, rule, positive, i), sheet);
+    for i in 0..count_in(book, rule, sign) {
+        put_item(i, book.body_atom(rule, sign, i), sheet);
     }
     sheet.put(b")");
 }
@@ -109,9 +94,9 @@ fn put_rule_line<B: Book>(book: &B, rule: usize, sheet: &mut Sheet<'_>)
     sheet.put(b" ");
     sheet.number(head);
     sheet.put(b" ");
-    put_body(book, rule, true, sheet);
+    put_body(book, rule, Sign::Positive, sheet);
     sheet.put(b" ");
-    put_body(book, rule, false, sheet);
+    put_body(book, rule, Sign::Negative, sheet);
     sheet.put(b")\n");
 }
 

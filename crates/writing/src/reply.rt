@@ -57,12 +57,11 @@ fn canonical_of(text: &[u8], tables: Tables<'_>, sheet: &mut [u8]) -> Result<usi
     ensures { Replied (program_at text.now (length tables.entry.ticks.now) (length tables.entry.routes.now) (length tables.entry.pairs.now) (length tables.entry.rules.now) (length sheet.old)) result sheet.old sheet.new }
 {
     if text.len() > MAX_INPUT {
-        return Err(Fault::Reading(ReadFault::TooMany { place: 0 }));
+        return Err(ReadFault::TooMany { place: 0 }.into());
     }
     let Some(word) = order_word(text) else {
-        return Err(Fault::Reading(ReadFault::Byte {
-            place: order_refused(text),
-        }));
+        let place = order_refused(text);
+        return Err(ReadFault::Byte { place }.into());
     };
     let Tables {
         ticks,

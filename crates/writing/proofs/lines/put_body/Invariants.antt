@@ -6,4 +6,4 @@ use Rattle.writing.proofs.lines.put_body.Given as goal
 
 -- the numbers below this one are written
 abbrev pub invariant-loop-i : goal.invariant-loop-i
-invariant-loop-i g l = WritesBelow l.initial.sheet (λ i. item i (slice_get (body_in l.positive (rule_at (g.B.Book.meaning l.book) l.rule)) i)) 21 l.i l.sheet
+invariant-loop-i g l = WritesBelow l.initial.sheet (λ i. item i (slice_get (body_in l.sign (rule_at (g.B.Book.meaning l.book) l.rule)) i)) 21 l.i l.sheet
