@@ -16,4 +16,5 @@ mod reader;
 mod rule;
 pub mod sheet;
 mod site;
+mod spelling;
 pub mod stamp;

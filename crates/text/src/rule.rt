@@ -61,8 +61,8 @@ fn body(text: &[u8], site: Site, before: usize, at: usize) -> Result<(Body, usiz
         }
     }
     match Body::of(&atoms[0..count]) {
-        Some(body) => Ok((body, next)),
-        None => Err(Fault::Reading(ReadFault::TooMany { place: site.form })),
+        Ok(body) => Ok((body, next)),
+        Err(_) => Err(Fault::Reading(ReadFault::TooMany { place: site.form })),
     }
 }
 

@@ -4,7 +4,7 @@ use Rattle.std.proofs.lemmas.List.{length-take-le}
 use Rattle.text.specs.Bytes.{and_then}
 use Rattle.text.specs.Rules.{no_atom, one_literal}
 use Rattle.text.specs.Turns.{tries}
-use Rattle.text.proofs.Bodied.{literal_refused, literal_more, literal_none, body_unopened, body_read, when_some}
+use Rattle.text.proofs.Bodied.{literal_refused, literal_more, literal_none, body_unopened, body_read}
 use Rattle.text.proofs.Turned.{turns_none, tries_refused}
 use Rattle.text.proofs.rule.body.Goals as goal
 use Rattle.text.proofs.rule.body.Goals.{then-more+in_ok-atom, else-more}
@@ -47,14 +47,14 @@ returns-in_err-atom c =
     let end = tries_refused (one_literal text c.args.site c.args.before) (no_atom start) l._turn 7 _ _ l.invariant.2 no c.loop-turn-test.true in
     rw (p.1, p.2) (record { value = body_read text c.args.site c.args.before c.args.at start _ c.in_ok-more.ensures end; few = tt })
 
-pub returns-in-Some : goal.returns-in-Some
-returns-in-Some c =
+pub returns-in-Ok : goal.returns-in-Ok
+returns-in-Ok c =
     let l = c.loop-turn in
     let text = c.args.text.now in
     let start : Bool × ℕ = (c.in_ok-more.more, c.in_ok-more.next) in
     let done : l._turn ≡ 7 = omega arith in
     let whole : l.count - 0 ≡ l.count = omega arith in
-    let atoms = when_some (leb (length (take (l.count - 0) l.atoms)) 6) (take (l.count - 0) l.atoms) _ c.in-Some.ensures ∙ ap (λ n. take n l.atoms) whole in
+    let atoms = c.in-Ok.ensures.items ∙ ap (λ n. take n l.atoms) whole in
     let end = l.invariant.2 ∙ ap (tries (one_literal text c.args.site c.args.before) (no_atom start)) done in
     let read = body_read text c.args.site c.args.before c.args.at start _ c.in_ok-more.ensures end in
     let size = ap length atoms ∙ length-take-le l.count l.atoms (omega arith) in
