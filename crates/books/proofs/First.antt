@@ -67,6 +67,11 @@ module _ {E : Type 0} (f : ℕ → Option E) where
       ends None at r = cc
       ends (Some x) at r = r ∙ ap refused_by (sym (first_found f i n x h at l))
 
+-- the same is found first where the same stands at each place
+pub first_same : {X : Type 0} (f g : ℕ → Option X) → ((i : ℕ) → f i ≡ g i) → (n : ℕ) → first_below n f ≡ first_below n g
+first_same f g same zero = refl
+first_same f g same (suc n) = rw (first_same f g same n, same n) refl
+
 -- a call that passed had no fault
 pub passed : (o : Option CheckFault) → Ok tt ≡ unless o → o ≡ None
 passed None e = refl

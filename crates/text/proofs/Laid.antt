@@ -1,9 +1,10 @@
 -- Bytes on a sheet, one after another.
-use Rattle.std.proofs.Common.{◌≡◌, ℕ, ◌+◌, ◌^◌, ◌<◌, ◌≤◌, List, [], ◌∷◌, ◌++◌, length, get_or, drop, set, decimal, sym, refl, ap, ◌∙◌, add-one, arith, length-append}
+use Rattle.std.proofs.Common.{◌≡◌, ℕ, ◌+◌, ◌*◌, ◌^◌, ◌<◌, ◌≤◌, List, [], ◌∷◌, ◌++◌, length, get_or, drop, set, decimal, sym, refl, ap, subst, ◌∙◌, add-one, arith, length-append}
 use Rattle.std.proofs.lemmas.List.{at_drop_more, at_drop_all, set_at, length_push, append-nil, append_assoc}
 use Rattle.std.proofs.lemmas.Fmt.{length-decimal-le}
 use Rattle.text.specs.Spelt.{up_to}
-use Rattle.text.specs.Written.{laid, Wrote}
+use Rattle.text.specs.Written.{laid, Wrote, Writes}
+use Rattle.text.specs.declared.sheet.Sheet.{Sheet}
 
 pub laid_more : (sheet bytes : List ℕ) (at i : ℕ) → i < length bytes → laid sheet at (drop i bytes) ≡ laid (set sheet at (get_or bytes i 0)) (at + 1) (drop (i + 1) bytes)
 unfolding laid
@@ -60,3 +61,28 @@ laid_after pre (x ∷ s) (b ∷ bytes) h =
 -- a text that the sheet has room for, from its first byte on
 pub laid_front : (s bytes : List ℕ) → length bytes ≤ length s → laid s 0 bytes ≡ bytes ++ drop (length bytes) s
 laid_front s bytes h = laid_after [] s bytes h
+
+-- one writing after another
+pub writes_then : {was mid is : Sheet} {xs ys : List ℕ} → Writes was xs mid → Writes mid ys is → Writes was (xs ++ ys) is
+writes_then h k = record { wrote = wrote_then h.wrote k.wrote; same = k.same ∙ h.same }
+
+pub writes_none : (was : Sheet) → Writes was [] was
+writes_none was = record { wrote = wrote_none was.bytes.now was.at; same = refl }
+
+-- the pieces below a number are written, none of them longer than so much
+pub record WritesBelow (was : Sheet) (f : ℕ → List ℕ) (most n : ℕ) (is : Sheet) : Type 0 where
+  pub written : Writes was (up_to f n) is
+  pub short : is.at ≤ was.at + most * n
+
+pub writes_start : (was : Sheet) (f : ℕ → List ℕ) (most : ℕ) → WritesBelow was f most 0 was
+unfolding up_to
+writes_start was f most = record { written = writes_none was; short = omega arith }
+
+-- one more piece
+pub writes_more : (was mid is : Sheet) (f : ℕ → List ℕ) (most i : ℕ) → WritesBelow was f most i mid → Writes mid (f i) is → is.at ≤ mid.at + most → WritesBelow was f most (i + 1) is
+unfolding up_to
+writes_more was mid is f most i h k short = record { written = rw (add-one i) (writes_then h.written k); short = let s = h.short in omega arith }
+
+-- the same writing, of what is the same
+pub writes_as : {was is : Sheet} {bytes : List ℕ} (bytes' : List ℕ) → bytes' ≡ bytes → Writes was bytes is → Writes was bytes' is
+writes_as {was} {is} bytes' e h = subst (λ b. Writes was b is) (sym e) h

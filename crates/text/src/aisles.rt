@@ -1,12 +1,9 @@
 // The aisles of a route, as a text has them.
-ghost use Rattle.std.specs.Prelude.{◌≡◌, ◌+◌, ◌-◌, ◌^◌, ◌<◌, ◌≤◌};
-ghost use Rattle.text.specs.Spelt.{up_to, aisle_text};
-ghost use Rattle.text.specs.Written.{Wrote};
+ghost use Rattle.std.specs.Prelude.{◌≡◌};
 ghost use Rattle.text.specs.Stamps.{route_at};
 ghost use Rattle.text.specs.Cursors.{Took};
 
 use crate::cursor::Cursor;
-use crate::sheet::{put, put_number};
 use books::fault::ReadFault;
 use stamps::route::Route;
 
@@ -33,34 +30,4 @@ impl Cursor<'_> {
         }
         Ok(Route { aisles })
     }
-}
-
-// Writes the aisle, if the route has it, after a space unless it is the first.
-fn put_aisle(sheet: &mut [u8], at: usize, aisles: u64, aisle: u64) -> usize
-    requires { (at < 2 ^ 61) × (aisle < 64) }
-    ensures wrote { Wrote sheet.old at (aisle_text aisles aisle) sheet.new result }
-    ensures short { result ≤ at + 21 }
-{
-    let bit = 1u64 << aisle;
-    if aisles / bit % 2 != 1 {
-        return at;
-    }
-    if aisles % bit == 0 {
-        return put_number(sheet, at, aisle as usize);
-    }
-    let at = put(sheet, at, b" ");
-    put_number(sheet, at, aisle as usize)
-}
-
-// Writes the aisles of a route, rising.
-pub fn put_aisles(sheet: &mut [u8], at: usize, aisles: u64) -> usize
-    requires { at < 2 ^ 61 - 2000 }
-    ensures wrote { Wrote sheet.old at (up_to (aisle_text aisles) 64) sheet.new result }
-    ensures short { result ≤ at + 1344 }
-{
-    let mut next = at;
-    for aisle in 0..=MAX_AISLE {
-        next = put_aisle(sheet, next, aisles, aisle);
-    }
-    next
 }

@@ -15,4 +15,5 @@ mod reader;
 mod rule;
 pub mod sheet;
 mod site;
+mod spelling;
 pub mod stamp;

@@ -2,14 +2,14 @@
 ghost use Rattle.std.specs.Prelude.{◌≡◌, ℕ, ◌+◌, ◌^◌, ◌<◌, ◌≤◌, List, length, Result as Answer};
 ghost use Rattle.books.specs.declared.fault.Fault.{Fault as Refused};
 ghost use Rattle.text.specs.Spelt.{tick_text, pair_text, route_text};
-ghost use Rattle.text.specs.Written.{Wrote};
+ghost use Rattle.text.specs.Written.{Writes};
 ghost use Rattle.text.specs.Cursors.{Took};
 ghost use Rattle.text.specs.Stamps.{tick_at, pair_at, route_at, tick_word, route_word, then_word};
 
-use crate::aisles::put_aisles;
 use crate::cursor::Cursor;
 use crate::numbers::MAX_NUMBER;
-use crate::sheet::{put, put_number};
+use crate::sheet::Sheet;
+use crate::spelling::put_aisles;
 use books::fault::ReadFault;
 use stamps::order::Order;
 use stamps::route::Route;
@@ -36,11 +36,11 @@ pub trait Spelled: Order {
     fn stamp(cursor: &mut Cursor<'_>) -> Result<Self, ReadFault>
         ensures { Took result cursor.old cursor.new (stamp_at cursor.old.text.now cursor.old.at) };
 
-    // Writes the stamp, and answers the place after it. What falls beyond the sheet's end is only counted.
-    fn spell(&self, sheet: &mut [u8], at: usize) -> usize
-        requires { at < 2 ^ 60 }
-        ensures wrote { Wrote sheet.old at (spelt self.now) sheet.new result }
-        ensures short { result ≤ at + 2000 };
+    // Writes the stamp. What falls beyond the sheet's end is only counted.
+    fn spell(&self, sheet: &mut Sheet<'_>)
+        requires { sheet.old.at < 2 ^ 60 }
+        ensures wrote { Writes sheet.old (spelt self.now) sheet.new }
+        ensures short { sheet.new.at ≤ sheet.old.at + 2000 };
 }
 
 impl Cursor<'_> {
@@ -66,8 +66,8 @@ impl Spelled for Tick {
         cursor.tick()
     }
 
-    fn spell(&self, sheet: &mut [u8], at: usize) -> usize {
-        put_number(sheet, at, self.0 as usize)
+    fn spell(&self, sheet: &mut Sheet<'_>) {
+        sheet.number(self.0 as usize);
     }
 }
 
@@ -91,12 +91,12 @@ impl Spelled for Then<Tick, Tick> {
         Ok(Then { first, second })
     }
 
-    fn spell(&self, sheet: &mut [u8], at: usize) -> usize {
-        let at = put(sheet, at, b"(");
-        let at = put_number(sheet, at, self.first.0 as usize);
-        let at = put(sheet, at, b" ");
-        let at = put_number(sheet, at, self.second.0 as usize);
-        put(sheet, at, b")")
+    fn spell(&self, sheet: &mut Sheet<'_>) {
+        sheet.put(b"(");
+        sheet.number(self.first.0 as usize);
+        sheet.put(b" ");
+        sheet.number(self.second.0 as usize);
+        sheet.put(b")");
     }
 }
 
@@ -115,9 +115,9 @@ impl Spelled for Route {
         cursor.route()
     }
 
-    fn spell(&self, sheet: &mut [u8], at: usize) -> usize {
-        let at = put(sheet, at, b"(");
-        let at = put_aisles(sheet, at, self.aisles);
-        put(sheet, at, b")")
+    fn spell(&self, sheet: &mut Sheet<'_>) {
+        sheet.put(b"(");
+        put_aisles(sheet, self.aisles);
+        sheet.put(b")");
     }
 }

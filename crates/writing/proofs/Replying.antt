@@ -2,9 +2,9 @@
 use Rattle.std.proofs.Common.{◌≡◌, ℕ, ◌+◌, ◌<◌, ◌≤◌, Bool, true, false, cond, ltb, List, length, Some, None, Ok, Err, Option, Result, sym, refl, ap, ◌∙◌, subst, arith}
 use Rattle.std.proofs.lemmas.Bool.{ltb-false, lt-ltb, le-ltb, cond-true, cond-false}
 use Rattle.books.specs.declared.fault.CheckFault.{CheckFault}
-use Rattle.books.specs.declared.fault.CheckFault.TheVariants.{SheetTooShort}
+use Rattle.books.specs.declared.fault.MakeFault.TheVariants.{SheetTooShort}
 use Rattle.books.specs.declared.fault.Fault.{Fault}
-use Rattle.books.specs.declared.fault.Fault.TheVariants.{Checking}
+use Rattle.books.specs.declared.fault.Fault.TheVariants.{Checking, Making}
 use Rattle.books.specs.Faults.{refusal_of}
 use Rattle.books.specs.declared.fault.Fault.TheVariants.{Reading}
 use Rattle.books.specs.declared.fault.ReadFault.TheVariants.{TooMany}
@@ -29,7 +29,7 @@ pub replied_as : (found found' : Result (List ℕ) Fault) (r : Result ℕ Fault)
 replied_as found found' r old new e h = subst (λ f. Replied f r old new) e h
 
 module _ (text old new : List ℕ) where
-  fitted : (b : Bool) (r : Result ℕ Fault) → (b ≡ false → length text ≤ length old) → r ≡ cond b (Err (Checking (SheetTooShort (length text)))) (Ok (length text)) → new ≡ sheet_after r text old → Replied (and_then (cond b (Err (Checking (SheetTooShort (length text)))) (Ok (length text))) (λ _. Ok text)) r old new
+  fitted : (b : Bool) (r : Result ℕ Fault) → (b ≡ false → length text ≤ length old) → r ≡ cond b (Err (Making (SheetTooShort (length text)))) (Ok (length text)) → new ≡ sheet_after r text old → Replied (and_then (cond b (Err (Making (SheetTooShort (length text)))) (Ok (length text))) (λ _. Ok text)) r old new
   fitted true r le e k = record { answered = e; sheet = k ∙ ap (λ r. sheet_after r text old) e; fits = tt }
   fitted false r le e k = record { answered = e; sheet = k ∙ ap (λ r. sheet_after r text old) e; fits = le refl }
 

@@ -12,13 +12,13 @@ pub put_book-requires : goal.put_book-requires
 put_book-requires g c =
     let m = g.B.Book.meaning c.args.book.now in
     let none = passed (book_gap m) c.in_ok-check_gaps.ensures in
-    (small_atoms m none, (small_rules m none, few_everywhere m none))
+    record { atoms = small_atoms m none; rules = small_rules m none; few = few_everywhere m none }
 
 pub put_book-needed-requires : goal.put_book-needed-requires
 put_book-needed-requires g c =
     let m = g.B.Book.meaning c.args.book.now in
     let none = passed (book_gap m) c.in_ok-check_gaps.ensures in
-    (small_atoms m none, (small_rules m none, few_everywhere m none))
+    record { atoms = small_atoms m none; rules = small_rules m none; few = few_everywhere m none }
 
 pub returns-in_err-check_gaps : goal.returns-in_err-check_gaps
 returns-in_err-check_gaps g c =
