@@ -34,6 +34,7 @@ fn atoms_back(steps: &[Step], tick: usize, width: usize) -> Body
 }
 
 // The pattern as a rule of that tick; none where it is vacant there.
+#[tactic(auto, using(crate::proofs::Bodies::few_items))]
 pub fn instance(pattern: &Pattern, tick: usize, width: usize) -> Option<RuleRow>
     requires within { (tick + 1) * width ≤ 1024 }
     requires head { pattern.now.head < width }

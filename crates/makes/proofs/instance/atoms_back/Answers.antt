@@ -7,7 +7,7 @@ use Rattle.makes.proofs.Instances.{no_step, all_back, atom_below}
 use Rattle.makes.proofs.instance.atoms_back.Goals as goal
 
 pub overflow_sub-atoms : goal.overflow_sub-atoms
-overflow_sub-atoms c = all_back c.args.tick c.args.steps.now c.requires.started c.loop-i.i c.loop-i-test.true
+overflow_sub-atoms c = all_back c.args.tick c.args.steps.now c.loop-i.i _ c.requires.started c.loop-i-test.true
 
 pub overflow_add-atoms : goal.overflow_add-atoms
 overflow_add-atoms c =
