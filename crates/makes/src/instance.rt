@@ -18,6 +18,7 @@ fn all_started(steps: &[Step], tick: usize) -> bool
 }
 
 // The atoms of the steps from a tick.
+#[tactic(auto, using(crate::proofs::Instances::all_back, crate::proofs::Instances::atom_below))]
 fn atoms_back(steps: &[Step], tick: usize, width: usize) -> Body
     requires few { length steps.now ≤ 6 }
     requires within { (tick + 1) * width ≤ 1024 }

@@ -16,6 +16,7 @@ fn place(tick: usize, ticks: usize, item: usize, items: usize) -> Option<usize>
 }
 
 impl Repeating<'_> {
+    #[tactic(auto, using(crate::proofs::Making::few_atoms_lem, crate::proofs::Ticks::ticks_at))]
     // The atom of a slot at a tick; none where there is no such slot or tick.
     pub fn atom_number(&self, tick: usize, slot: usize) -> Option<usize>
         ensures answer { result ≡ then_some (nat_lt tick self.now.ticks && nat_lt slot (length self.now.slots.now)) (tick * length self.now.slots.now + slot) }
@@ -24,6 +25,7 @@ impl Repeating<'_> {
         place(tick, self.ticks, slot, self.slots.len())
     }
 
+    #[tactic(auto, using(crate::proofs::Making::few_rules_lem, crate::proofs::Ticks::ticks_at))]
     // The rule number of a pattern at a tick; none where there is no such pattern or tick.
     pub fn rule_number(&self, tick: usize, pattern: usize) -> Option<usize>
         ensures answer { result ≡ then_some (nat_lt tick self.now.ticks && nat_lt pattern (length self.now.patterns.now)) (tick * length self.now.patterns.now + pattern) }
