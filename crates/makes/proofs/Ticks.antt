@@ -40,5 +40,9 @@ module _ {X Y : Type 0} (f : ℕ → X → Y) (xs : List X) where
       let split : k ≡ k / length xs * length xs + k % length xs = sym (div-add-mod' k (length xs)) in
       ap (slice_get (every_tick f xs n)) split ∙ ticks_at n (k / length xs) (k % length xs) (div_below k (length xs) n some l) (mod_below k (length xs) some)
 
+  -- there is an item for a place below the end
+  pub ticks_inside : (n k : ℕ) → k < n * length xs → k % length xs < length xs
+  ticks_inside n k l = mod_below k (length xs) (some_items n (length xs) k l)
+
   pub ticks_past : (n k : ℕ) → n * length xs ≤ k → slice_get (every_tick f xs n) k ≡ None
   ticks_past n k l = slice_get_past (every_tick f xs n) k (rw length-every_tick l)

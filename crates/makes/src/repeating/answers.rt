@@ -15,6 +15,7 @@ use stamps::tick::Tick;
 
 impl Repeating<'_> {
     // A slot at its tick.
+    #[tactic(auto, using(crate::proofs::Ticks::ticks_place, crate::proofs::Ticks::ticks_past, crate::proofs::Ticks::ticks_inside, std::proofs::lemmas::Option::gets))]
     fn atom(&self, atom: usize) -> Option<AtomRow<Then<Tick, Tick>>>
         ensures { option_map atom_of result ≡ slice_get (every_tick slot_atom self.now.slots.now self.now.ticks) atom }
     {
