@@ -1,5 +1,5 @@
 -- How many items a body holds.
-use Rattle.std.proofs.Common.{◌≡◌, ◌≤◌, length, arith}
+use Rattle.std.proofs.Common.{◌≤◌, length, arith}
 use Rattle.std.proofs.lemmas.List.{length-take-le}
 use Rattle.makes.specs.Bodies.{body_items}
 use Rattle.makes.specs.declared.body.Body.{Body}
