@@ -46,6 +46,7 @@ impl Repeating<'_> {
     }
 }
 
+#[tactic(auto, using(crate::proofs::Ticks::lengths))]
 impl Book for Repeating<'_> {
     type Stamp = Then<Tick, Tick>;
 
