@@ -10,10 +10,9 @@ use Rattle.stamps.specs.declared.route.Route.{Route}
 use Rattle.text.specs.Bytes.{and_then, pass_at}
 use Rattle.text.specs.Lists.{open_at, onward_at, empty_if}
 use Rattle.text.specs.Numbers.{number_at}
-use Rattle.text.specs.Stamps.{one_aisle, aisles_at, route_at}
+use Rattle.text.specs.Stamps.{Aisles, one_aisle, aisles_at, route_at}
 use Rattle.text.specs.Turns.{turns, tries}
 use Rattle.text.specs.Words.{is_byte}
-use Rattle.text.specs.declared.aisles.Aisles.{Aisles}
 use Rattle.grammar.specs.Pieces.{Care, Kept, Numeral, Spaced}
 use Rattle.grammar.specs.Stamps.{RouteSpelt, RisingFrom, with_aisles}
 use Rattle.grammar.proofs.Agreement.{Agrees}

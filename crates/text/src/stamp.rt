@@ -3,15 +3,14 @@ ghost use Rattle.std.specs.Prelude.{◌≡◌, ℕ, ◌+◌, ◌^◌, ◌<◌, �
 ghost use Rattle.books.specs.declared.fault.Fault.{Fault as Refused};
 ghost use Rattle.text.specs.Spelt.{tick_text, pair_text, route_text};
 ghost use Rattle.text.specs.Written.{Writes};
+ghost use Rattle.text.specs.Cursors.{Took};
 ghost use Rattle.text.specs.Stamps.{tick_at, pair_at, route_at, tick_word, route_word, then_word};
 
-use crate::aisles::rising;
-use crate::bytes::pass;
-use crate::lists::open_list;
-use crate::numbers::{MAX_NUMBER, number};
+use crate::cursor::Cursor;
+use crate::numbers::MAX_NUMBER;
 use crate::sheet::Sheet;
 use crate::spelling::put_aisles;
-use books::fault::Fault;
+use books::fault::ReadFault;
 use stamps::order::Order;
 use stamps::route::Route;
 use stamps::then::Then;
@@ -32,8 +31,10 @@ pub trait Spelled: Order {
         ensures value { result.now ≡ spelling }
         ensures short { length result.now ≤ 8 };
 
-    fn stamp(text: &[u8], at: usize) -> Result<(Self, usize), Fault>
-        ensures { result ≡ stamp_at text.now at };
+    // The stamp at the cursor's place, and the cursor past it. The faults: a byte that no stamp has there,
+    // a number above its limit, an aisle that does not rise.
+    fn stamp(cursor: &mut Cursor<'_>) -> Result<Self, ReadFault>
+        ensures { Took result cursor.old cursor.new (stamp_at cursor.old.text.now cursor.old.at) };
 
     // Writes the stamp. What falls beyond the sheet's end is only counted.
     fn spell(&self, sheet: &mut Sheet<'_>)
@@ -42,11 +43,12 @@ pub trait Spelled: Order {
         ensures short { sheet.new.at ≤ sheet.old.at + 2000 };
 }
 
-fn tick(text: &[u8], at: usize) -> Result<(Tick, usize), Fault>
-    ensures { result ≡ tick_at text.now at }
-{
-    let (value, next) = number(text, at, MAX_NUMBER)?;
-    Ok((Tick(value as u32), next))
+impl Cursor<'_> {
+    fn tick(&mut self) -> Result<Tick, ReadFault>
+        ensures { Took result self.old self.new (tick_at self.old.text.now self.old.at) }
+    {
+        Ok(Tick(self.number(MAX_NUMBER)? as u32))
+    }
 }
 
 impl Spelled for Tick {
@@ -60,8 +62,8 @@ impl Spelled for Tick {
         b"tick"
     }
 
-    fn stamp(text: &[u8], at: usize) -> Result<(Tick, usize), Fault> {
-        tick(text, at)
+    fn stamp(cursor: &mut Cursor<'_>) -> Result<Tick, ReadFault> {
+        cursor.tick()
     }
 
     fn spell(&self, sheet: &mut Sheet<'_>) {
@@ -80,13 +82,13 @@ impl Spelled for Then<Tick, Tick> {
         b"then"
     }
 
-    fn stamp(text: &[u8], at: usize) -> Result<(Then<Tick, Tick>, usize), Fault> {
-        let at = pass(text, at, b'(')?;
-        let (first, at) = tick(text, at)?;
-        let at = pass(text, at, b' ')?;
-        let (second, at) = tick(text, at)?;
-        let next = pass(text, at, b')')?;
-        Ok((Then { first, second }, next))
+    fn stamp(cursor: &mut Cursor<'_>) -> Result<Then<Tick, Tick>, ReadFault> {
+        cursor.pass(b'(')?;
+        let first = cursor.tick()?;
+        cursor.pass(b' ')?;
+        let second = cursor.tick()?;
+        cursor.pass(b')')?;
+        Ok(Then { first, second })
     }
 
     fn spell(&self, sheet: &mut Sheet<'_>) {
@@ -109,15 +111,8 @@ impl Spelled for Route {
         b"route"
     }
 
-    fn stamp(text: &[u8], at: usize) -> Result<(Route, usize), Fault> {
-        let (more, next) = open_list(text, at)?;
-        let list = rising(text, more, next)?;
-        Ok((
-            Route {
-                aisles: list.aisles,
-            },
-            list.next,
-        ))
+    fn stamp(cursor: &mut Cursor<'_>) -> Result<Route, ReadFault> {
+        cursor.route()
     }
 
     fn spell(&self, sheet: &mut Sheet<'_>) {
