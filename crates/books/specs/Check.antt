@@ -11,7 +11,7 @@ use Rattle.books.specs.declared.fault.CheckFault.TheVariants.{TooLarge, BodyTooL
 use Rattle.books.specs.declared.fault.Fault.{Fault}
 use Rattle.books.specs.declared.fault.Fault.TheVariants.{Checking}
 
--- the first that f gives at the numbers below n
+-- the first that f gives at the numbers below n; std has a word for the first of a list, and none for this
 abbrev pub first_below : {X : Type 0} → ℕ → (ℕ → Option X) → Option X
 first_below zero f = None
 first_below (suc n) f = option_or (first_below n f) (f n)

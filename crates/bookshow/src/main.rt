@@ -25,25 +25,17 @@ const NAMES: [&str; 6] = [
     "shuttle 3 may go round by aisle 9",
 ];
 
-fn reading(tick: u32) -> AtomRow<Tick> {
+fn atom(tick: u32, reading: bool) -> AtomRow<Tick> {
     AtomRow {
         stamp: Tick(tick),
-        reading: true,
-    }
-}
-
-fn derived(tick: u32) -> AtomRow<Tick> {
-    AtomRow {
-        stamp: Tick(tick),
-        reading: false,
+        reading,
     }
 }
 
 fn rule(head: usize, positives: &[usize], negatives: &[usize]) -> anyhow::Result<Option<RuleRow>> {
-    match RuleRow::of(head, positives, negatives) {
-        Ok(row) => Ok(Some(row)),
-        Err(_) => Err(anyhow!("a list has more than six atoms")),
-    }
+    RuleRow::of(head, positives, negatives)
+        .map(Some)
+        .map_err(|_| anyhow!("a list has more than six atoms"))
 }
 
 // Prints each rule as it is tested, and the verdict.
@@ -69,12 +61,12 @@ where
 
 fn flat(rt: &HostRuntime) -> anyhow::Result<()> {
     let atoms = [
-        reading(1),
-        reading(2),
-        derived(2),
-        derived(3),
-        derived(3),
-        derived(3),
+        atom(1, true),
+        atom(2, true),
+        atom(2, false),
+        atom(3, false),
+        atom(3, false),
+        atom(3, false),
     ];
     let mut rules = [
         rule(2, &[1], &[])?,
@@ -174,10 +166,8 @@ fn run(rt: &HostRuntime) -> anyhow::Result<()> {
         slot(false, 2),
         slot(false, 2),
     ];
-    match patterns() {
-        Ok(patterns) => repeating(rt, &slots, &patterns),
-        Err(_) => Err(anyhow!("a list has more than six steps")),
-    }
+    let patterns = patterns().map_err(|_| anyhow!("a list has more than six steps"))?;
+    repeating(rt, &slots, &patterns)
 }
 
 fn main(rt: HostRuntime) -> anyhow::Result<()> {

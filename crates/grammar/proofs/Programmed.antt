@@ -5,16 +5,17 @@ use Rattle.std.specs.List.{slice_get}
 use Rattle.books.specs.Check.{book_fault, unless}
 use Rattle.books.specs.Meaning.{Meaning}
 use Rattle.books.specs.declared.fault.CheckFault.{CheckFault}
-use Rattle.books.specs.declared.fault.CheckFault.TheVariants.{SheetTooShort}
+use Rattle.books.specs.declared.fault.MakeFault.TheVariants.{SheetTooShort}
 use Rattle.books.specs.declared.fault.Fault.{Fault}
-use Rattle.books.specs.declared.fault.Fault.TheVariants.{Reading, Checking}
+use Rattle.books.specs.declared.fault.Fault.TheVariants.{Reading, Making}
 use Rattle.books.specs.declared.fault.ReadFault.TheVariants.{Byte, TooMany}
 use Rattle.text.specs.Bytes.{and_then, wrong_at}
 use Rattle.text.specs.Kinds.{begins}
 use Rattle.text.specs.Orders.{tick_order, route_order, then_order, word_of, order_refused}
 use Rattle.text.specs.Words.{agrees_to, is_byte}
 use Rattle.text.specs.declared.order.Word.TheVariants as word
-use Rattle.writing.specs.Replies.{checked_text, canonical_at, tick_before, tick_not_after, route_before, route_not_after, then_before, then_not_after, by_word, program_at}
+use Rattle.stamps.specs.Kinds as kinds
+use Rattle.writing.specs.Replies.{checked_text, canonical_at, by_word, program_at}
 use Rattle.writing.specs.Writes.{book_gap, write_answer}
 use Rattle.grammar.specs.Notations.{Notation, ticks, routes, pairs}
 use Rattle.grammar.specs.Programs.{RefusedByAll, ProgramRefusesThere}
@@ -255,7 +256,7 @@ no_byte (Some f) gap needed room x k e = let z : ◌≡◌ {A = ℕ} 0 1 = cc in
 no_byte None (Some f) needed room x k e = let z : ◌≡◌ {A = ℕ} 0 1 = cc in omega arith
 no_byte {X} None None needed room x k e = by_room (ltb room needed) e
   where
-    by_room : (t : Bool) → and_then (cond t (Err (Checking (SheetTooShort needed))) (Ok needed)) (λ _. Ok x) ≡ Err (Reading (Byte k)) → ⊥
+    by_room : (t : Bool) → and_then (cond t (Err (Making (SheetTooShort needed))) (Ok needed)) (λ _. Ok x) ≡ Err (Reading (Byte k)) → ⊥
     by_room true e = let z : ◌≡◌ {A = ℕ} 0 1 = cc in omega arith
     by_room false e = let z : ◌≡◌ {A = ℕ} 0 1 = cc in omega arith
 
@@ -281,9 +282,9 @@ pub program_refuses_there_lem : ProgramRefusesThere
 unfolding program_at
 program_refuses_there_lem text tick_rows route_rows pair_rows rules room k e =
     by_order text _ _ _ k
-    (λ h. refused_at_the_first_byte_lem ticks lawful_ticks text tick_rows rules k (read_refused ticks tick_before tick_not_after text tick_rows rules room k h))
-    (λ h. refused_at_the_first_byte_lem routes lawful_routes text route_rows rules k (read_refused routes route_before route_not_after text route_rows rules room k h))
-    (λ h. refused_at_the_first_byte_lem pairs lawful_pairs text pair_rows rules k (read_refused pairs then_before then_not_after text pair_rows rules room k h))
+    (λ h. refused_at_the_first_byte_lem ticks lawful_ticks text tick_rows rules k (read_refused ticks kinds.ticks text tick_rows rules room k h))
+    (λ h. refused_at_the_first_byte_lem routes lawful_routes text route_rows rules k (read_refused routes kinds.routes text route_rows rules room k h))
+    (λ h. refused_at_the_first_byte_lem pairs lawful_pairs text pair_rows rules k (read_refused pairs kinds.pairs text pair_rows rules room k h))
     (short (ltb 65536 (length text)) _ e)
   where
     short : (t : Bool) (r : Result (List ℕ) Fault) → cond t (Err (Reading (TooMany 0))) r ≡ Err (Reading (Byte k)) → r ≡ Err (Reading (Byte k))

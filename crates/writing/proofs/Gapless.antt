@@ -2,7 +2,7 @@
 use Rattle.std.proofs.Common.{◌≡◌, ℕ, ◌≤◌, Bool, true, false, cond, ◌||◌, ltb, length, Some, None, Option, sym, refl, ap, subst, inl, inr, arith}
 use Rattle.std.proofs.lemmas.Option.{slice_get_past}
 use Rattle.std.proofs.lemmas.Bool.{cases_lt, or_parts, ltb-false}
-use Rattle.std.specs.Option.{option_map, option_and_then, option_flatten}
+use Rattle.std.specs.Option.{option_and_then, option_flatten}
 use Rattle.books.proofs.First.{first_none}
 use Rattle.books.specs.Check.{first_below}
 use Rattle.books.specs.Meaning.{Rule, Meaning, rule_at}

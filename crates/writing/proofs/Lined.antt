@@ -1,5 +1,5 @@
 -- Lines of a book, by what its questions answer.
-use Rattle.std.proofs.Common.{◌≡◌, ℕ, Bool, true, false, cond, List, [], ◌++◌, length, Some, None, decimal, Option, sym, refl, ap, ◌∙◌, arith}
+use Rattle.std.proofs.Common.{◌≡◌, ℕ, Bool, List, [], ◌++◌, length, Some, None, decimal, Option, refl, ap, ◌∙◌, arith}
 use Rattle.std.specs.List.{slice_get}
 use Rattle.std.specs.Option.{option_map, option_and_then, unwrap_or}
 use Rattle.books.specs.Meaning.{Rule, Atom, of_sign}
@@ -29,10 +29,6 @@ atom_text_lem spelt i (Some a) s b hs hb =
 pub no_atom_lem : {S Y : Type 0} (spelt : S → List ℕ) (i : ℕ) (o : Option (Atom S)) (f : Atom S → Y) → None ≡ option_map f o → atom_text spelt i o ≡ []
 no_atom_lem spelt i None f h = refl
 no_atom_lem spelt i (Some a) f h = let z : ◌≡◌ {A = ℕ} 0 1 = cc in absurd (omega arith)
-
-pub void_text : (k : ℕ) (o : Option Rule) → None ≡ option_map (λ (r : Rule). r.head) o → rule_text k o ≡ rule_text k None
-void_text k None h = refl
-void_text k (Some r) h = let z : ◌≡◌ {A = ℕ} 0 1 = cc in absurd (omega arith)
 
 pub rule_text_lem : (k : ℕ) (o : Option Rule) (h : ℕ) → Some h ≡ option_map (λ (r : Rule). r.head) o → rule_text k o ≡ rule_opening ++ decimal k ++ space ++ decimal h ++ space ++ list_text (body_in Positive o) ++ space ++ list_text (body_in Negative o) ++ closing
 rule_text_lem k None h e = let z : ◌≡◌ {A = ℕ} 0 1 = cc in absurd (omega arith)

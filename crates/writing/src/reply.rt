@@ -53,6 +53,7 @@ fn put_refusal(refusal: Refusal, bytes: &mut [u8]) -> usize
 }
 
 // The input's book in canonical spelling, whatever its order.
+#[tactic(auto, unfolding(crate::specs::Replies::program_at))]
 fn canonical_of(text: &[u8], tables: Tables<'_>, sheet: &mut [u8]) -> Result<usize, Fault>
     ensures { Replied (program_at text.now (length tables.entry.ticks.now) (length tables.entry.routes.now) (length tables.entry.pairs.now) (length tables.entry.rules.now) (length sheet.old)) result sheet.old sheet.new }
 {

@@ -4,8 +4,8 @@ use Rattle.books.specs.Meaning.{rule_at}
 use Rattle.writing.proofs.Lined.{count_in_body}
 use Rattle.writing.proofs.lines.count_in.Goals as goal
 
-pub returns : goal.returns
-returns g c =
-    let same = c.unwrap_or.ensures ∙ ap (λ o. unwrap_or o 0) c.body_count.ensures ∙ count_in_body c.args.sign (rule_at (g.B.Book.meaning c.args.book.now) c.args.rule) in
+pub returns-clause-few : goal.returns-clause-few
+returns-clause-few g c =
+    let count = c.unwrap_or.ensures ∙ ap (λ o. unwrap_or o 0) c.body_count.ensures ∙ count_in_body c.args.sign (rule_at (g.B.Book.meaning c.args.book.now) c.args.rule) in
     let few = c.requires c.args.rule c.args.sign in
-    record { value = same; few = omega arith }
+    omega arith
