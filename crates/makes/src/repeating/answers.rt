@@ -15,6 +15,7 @@ use stamps::tick::Tick;
 
 impl Repeating<'_> {
     // A slot at its tick.
+    #[tactic(auto, using(crate::proofs::Ticks::places))]
     fn atom(&self, atom: usize) -> Option<AtomRow<Then<Tick, Tick>>>
         ensures { option_map atom_of result ≡ slice_get (every_tick slot_atom self.now.slots.now self.now.ticks) atom }
     {
@@ -33,6 +34,7 @@ impl Repeating<'_> {
     }
 
     // A pattern at its tick; none where it is vacant.
+    #[tactic(auto, using(crate::proofs::Ticks::places, crate::proofs::Making::made_book))]
     fn rule(&self, rule: usize) -> Option<RuleRow>
         ensures { option_map rule_of result ≡ option_flatten (slice_get (every_tick (instance_of (length self.now.slots.now)) self.now.patterns.now self.now.ticks) rule) }
     {
