@@ -1,9 +1,9 @@
 -- The form at a place, chosen byte by byte.
-use Rattle.std.proofs.Common.{◌≡◌, ℕ, zero, suc, ◌+◌, ◌≤◌, max, Bool, true, false, cond, ◌&&◌, eqb, List, [], ◌∷◌, drop, Some, None, Ok, codes, Option, Result, sym, refl, ap, ◌∙◌, subst, inl, inr, add-one, arith}
+use Rattle.std.proofs.Common.{◌≡◌, ℕ, ◌+◌, ◌≤◌, max, Bool, true, false, cond, ◌&&◌, eqb, List, [], ◌∷◌, drop, Some, None, Ok, codes, Option, Result, sym, refl, ap, ◌∙◌, subst, inl, inr, arith}
 use Rattle.std.proofs.lemmas.Bool.{cases_eq, ne_eqb}
 use Rattle.std.specs.List.{slice_get}
 use Rattle.books.specs.declared.fault.Fault.{Fault}
-use Rattle.text.specs.Bytes.{and_then, wrong_at, pass_at, pass_if}
+use Rattle.text.specs.Bytes.{and_then, wrong_at, pass_at}
 use Rattle.text.specs.Words.{pass_word, agrees_to, is_byte}
 use Rattle.text.specs.Kinds.{order_opening, atom_opening, rule_opening, void_opening, end_opening, begins, kind_of}
 use Rattle.text.proofs.Opened.{begins_step, pass_if_lem}
