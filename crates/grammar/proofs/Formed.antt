@@ -19,7 +19,7 @@ use Rattle.grammar.proofs.Agreement.{Agrees}
 use Rattle.grammar.proofs.Agreeing.{Any, Via, agrees_same, agrees_as, agrees_then, agrees_done, agrees_if, byte_then, word_then}
 use Rattle.grammar.proofs.Bodies.{body_agrees}
 use Rattle.grammar.proofs.Choosing.{agrees_choice, agrees_unless}
-use Rattle.grammar.proofs.Following.{ended, unended, first_of}
+use Rattle.grammar.proofs.Following.{ended, unended, first_of, onto}
 use Rattle.grammar.proofs.Keeping.{kept_map}
 use Rattle.grammar.proofs.Numbers.{number_agrees, NoDigit}
 
@@ -142,11 +142,11 @@ module _ (site : Site) where
       let k = p.parts.second in
       let n = k.second in
       let body = ended (Bodied c n.value) (r ≡ made h.value p.value n.value) k.back n.parts in
-      let six : Followed (Exactly space) (Bodied c n.value) p.parts.back = record { front = k.front; back = k.back; whole = k.whole; first = k.first; second = body } in
-      let five : Followed (Bodied c p.value) (Followed (Exactly space) (Bodied c n.value)) g.back = record { front = p.parts.front; back = p.parts.back; whole = p.parts.whole; first = p.parts.first; second = six } in
-      let four : Followed (Exactly space) (Followed (Bodied c p.value) (Followed (Exactly space) (Bodied c n.value))) h.parts.back = record { front = g.front; back = g.back; whole = g.whole; first = g.first; second = five } in
+      let six : Followed (Exactly space) (Bodied c n.value) p.parts.back = onto k body in
+      let five : Followed (Bodied c p.value) (Followed (Exactly space) (Bodied c n.value)) g.back = onto p.parts six in
+      let four : Followed (Exactly space) (Followed (Bodied c p.value) (Followed (Exactly space) (Bodied c n.value))) h.parts.back = onto g five in
       subst (λ x. Parts c site.atoms x text) (sym n.parts.second.0)
-      (record { front = f.front; back = f.back; whole = f.whole; first = f.first; second = record { front = h.parts.front; back = h.parts.back; whole = h.parts.whole; first = h.parts.first; second = four } })
+      (onto f (onto h.parts four))
 
   parts_from : (c : Care) (r : Rule) (text : List ℕ) → Parts c site.atoms r text → Followed (Exactly space) (Via Headed Positives c r) text
   parts_from c r text f =
@@ -155,9 +155,9 @@ module _ (site : Site) where
       let p = k.second in
       let j = p.second in
       let negatives : Via Bodied (Last r.head r.positives) c r j.back = record { value = r.negatives; parts = unended (Bodied c r.negatives) (r ≡ r) j.back refl j.second } in
-      let positives : Via Bodied (Negatives r.head) c r k.back = record { value = r.positives; parts = record { front = p.front; back = p.back; whole = p.whole; first = p.first; second = record { front = j.front; back = j.back; whole = j.whole; first = j.first; second = negatives } } } in
-      let head : Via Headed Positives c r f.back = record { value = r.head; parts = record { front = g.front; back = g.back; whole = g.whole; first = g.first; second = record { front = k.front; back = k.back; whole = k.whole; first = k.first; second = positives } } } in
-      record { front = f.front; back = f.back; whole = f.whole; first = f.first; second = head }
+      let positives : Via Bodied (Negatives r.head) c r k.back = record { value = r.positives; parts = onto p (onto j negatives) } in
+      let head : Via Headed Positives c r f.back = record { value = r.head; parts = onto g (onto k positives) } in
+      onto f head
 
   pub rule_agrees : Agrees (λ text at. rule_at text site at) (λ c r text. Parts c site.atoms r text) Any
   unfolding rule_at

@@ -9,7 +9,7 @@ use Rattle.grammar.specs.Pieces.{Care, Exactly, Followed, Numeral}
 use Rattle.grammar.specs.Stamps.{TickSpelt, PairSpelt}
 use Rattle.grammar.proofs.Agreement.{Agrees}
 use Rattle.grammar.proofs.Agreeing.{Any, Via, agrees_as, agrees_then, agrees_done, byte_then}
-use Rattle.grammar.proofs.Following.{ended, unended, first_of}
+use Rattle.grammar.proofs.Following.{ended, unended, first_of, onto}
 use Rattle.grammar.proofs.Numbers.{number_agrees, NoDigit}
 
 abbrev Ticked : Care → ℕ → List ℕ → Type 0
@@ -58,12 +58,12 @@ pair_agrees =
         let b = g.second in
         let close = ended (Exactly (41 ∷ [])) (p ≡ record { first = a.value; second = b.value }) b.parts.back b.parts.second in
         subst (λ x. PairSpelt c x text) (sym b.parts.second.second.0)
-        (record { front = f.front; back = f.back; whole = f.whole; first = f.first; second = record { front = a.parts.front; back = a.parts.back; whole = a.parts.whole; first = a.parts.first; second = record { front = g.front; back = g.back; whole = g.whole; first = g.first; second = record { front = b.parts.front; back = b.parts.back; whole = b.parts.whole; first = b.parts.first; second = close } } } })
+        (onto f (onto a.parts (onto g (onto b.parts close))))
 
     from : (c : Care) (p : Then Tick Tick) (text : List ℕ) → PairSpelt c p text → Followed (Exactly (40 ∷ [])) (First c p) text
     from c p text f =
         let g = f.second in
         let h = g.second in
         let i = h.second in
-        let second : Second p.first c p h.back = record { value = p.second; parts = record { front = i.front; back = i.back; whole = i.whole; first = i.first; second = unended (Exactly (41 ∷ [])) (p ≡ p) i.back refl i.second } } in
-        record { front = f.front; back = f.back; whole = f.whole; first = f.first; second = record { value = p.first; parts = record { front = g.front; back = g.back; whole = g.whole; first = g.first; second = record { front = h.front; back = h.back; whole = h.whole; first = h.first; second = second } } } }
+        let second : Second p.first c p h.back = record { value = p.second; parts = onto i (unended (Exactly (41 ∷ [])) (p ≡ p) i.back refl i.second) } in
+        onto f (record { value = p.first; parts = onto g (onto h second) })
