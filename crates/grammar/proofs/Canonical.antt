@@ -9,10 +9,9 @@ use Rattle.std.specs.Str.Parse.{AllDigits}
 use Rattle.stamps.specs.declared.tick.Tick.{Tick}
 use Rattle.stamps.specs.declared.then.Then.{Then}
 use Rattle.text.specs.Spelt.{up_to, space, opening, shutting, item, list_text, tick_text, pair_text}
-use Rattle.grammar.specs.Pieces.{Care, kept, plain, Kept, Numeral, Spaced, Listed}
+use Rattle.grammar.specs.Pieces.{kept, plain, Numeral, Spaced, Listed}
 use Rattle.grammar.specs.Stamps.{TickSpelt, PairSpelt}
 use Rattle.grammar.proofs.Following.{followed_by, followed_unique}
-use Rattle.grammar.proofs.Keeping.{kept_fact, kept_both}
 
 no_leading_zero : (n : ℕ) → n < 2 ^ 64 → get_or (decimal n) 0 0 ≡ 48 → length (decimal n) ≡ 1
 no_leading_zero n h e =
@@ -109,16 +108,6 @@ pub list_unique : (limit : ℕ) (xs text : List ℕ) → Listed plain limit xs t
 list_unique limit xs text h =
     followed_unique opening (spaced_text xs ++ shutting) text (λ t e. e) (λ t. followed_unique (spaced_text xs) shutting t (spaced_unique limit xs) (λ s e. e)) h
     ∙ sym (list_text_lem xs)
-
-spaced_within : (c : Care) (limit : ℕ) (xs text : List ℕ) → Spaced c limit xs text → Kept c (AllByRecursion (λ n. n ≤ limit) xs)
-spaced_within c limit [] text h = kept_fact (Unit {0}) c tt
-spaced_within c limit (x ∷ []) text h = kept_both (x ≤ limit) (Unit {0}) c h.within (kept_fact (Unit {0}) c tt)
-spaced_within c limit (x ∷ y ∷ xs) text h =
-    kept_both (x ≤ limit) (AllByRecursion (λ n. n ≤ limit) (y ∷ xs)) c h.first.within (spaced_within c limit (y ∷ xs) h.second.back h.second.second)
-
--- the numbers of a list are within its limit
-pub list_within : (c : Care) (limit : ℕ) (xs text : List ℕ) → Listed c limit xs text → Kept c (AllByRecursion (λ n. n ≤ limit) xs)
-list_within c limit xs text h = spaced_within c limit xs h.second.front h.second.first
 
 pub tick_canonical : (t : Tick) → t.0 ≤ 4294967295 → TickSpelt plain t (tick_text t)
 tick_canonical t h = numeral_canonical 4294967295 t.0 h (omega arith)

@@ -13,14 +13,8 @@ use Rattle.grammar.proofs.Agreement.{AtByte, Agrees}
 use Rattle.grammar.proofs.Agreeing.{Any, Via, agrees_same, agrees_as, agrees_then, agrees_done, byte_then}
 use Rattle.grammar.proofs.Choosing.{agrees_choice, agrees_unless, agrees_never}
 use Rattle.grammar.proofs.Following.{followed_map, regroup, ungroup, ended, unended, first_of, onto}
-use Rattle.grammar.proofs.Keeping.{kept_map, kept_fact, kept_three}
-use Rattle.grammar.proofs.Numbers.{number_agrees, NoDigit, numeral_shaped}
-
-pub spaced_shaped : (c : Care) (limit : ℕ) (ns text : List ℕ) → Spaced c limit ns text → Spaced shape limit ns text
-spaced_shaped c limit [] text h = h
-spaced_shaped c limit (n ∷ []) text h = numeral_shaped c limit n text h
-spaced_shaped c limit (n ∷ m ∷ ns) text h =
-    followed_map _ _ _ _ text (numeral_shaped c limit n) (λ t. followed_map _ _ _ _ t (λ u e. e) (spaced_shaped c limit (m ∷ ns))) h
+use Rattle.grammar.proofs.Keeping.{kept_map, kept_fact, kept_three, spaced_eased, to_shape}
+use Rattle.grammar.proofs.Numbers.{number_agrees, NoDigit}
 
 -- a number begins with a digit, which is no bracket
 pub starts_digit : (c : Care) (limit n : ℕ) (text rest : List ℕ) → Numeral c limit n text → is_byte 41 (slice_get (text ++ rest) 0) ≡ false
@@ -118,7 +112,7 @@ module _ {A : Type 0} (limit : ℕ) (add : A → ℕ → A) (first second : A �
       record {
         head = tail.head;
         rest = tail.rest;
-        parts = followed_map _ _ _ _ text (spaced_shaped c limit (tail.head ∷ tail.rest)) (λ p e. e) tail.parts;
+        parts = followed_map _ _ _ _ text (spaced_eased (to_shape c) limit (tail.head ∷ tail.rest)) (λ p e. e) tail.parts;
         passes = tt;
         means = tail.means;
       }

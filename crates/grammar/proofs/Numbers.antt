@@ -16,14 +16,11 @@ use Rattle.text.specs.Turns.{turns}
 use Rattle.grammar.proofs.Agreement.{Same, Shared, Between, Seen, ShapeOnly, Reads, Agrees}
 use Rattle.grammar.specs.Pieces.{Care, shape, kept, plain, Kept, Numeral}
 use Rattle.grammar.proofs.Places.{slice_get_front, between_join, between_none, between_one, drop_past}
+use Rattle.grammar.proofs.Keeping.{to_shape, numeral_eased}
 
 -- a text that does not begin with a digit
 abbrev pub NoDigit : List ℕ → Type 0
 NoDigit rest = digit_of (slice_get rest 0) ≡ None
-
--- whatever rules a number keeps, it has the shape of one
-pub numeral_shaped : (c : Care) (limit n : ℕ) (text : List ℕ) → Numeral c limit n text → Numeral shape limit n text
-numeral_shaped c limit n text h = record { digits = h.digits; some = h.some; few = h.few; means = h.means; within = tt; plainly = tt }
 
 digit_value_is : (b : ℕ) → 48 ≤ b → b ≤ 57 → digit_value b ≡ b - 48
 digit_value_is b lo hi = rw (le-ltb b 48 lo, lt-ltb b 58 (omega arith)) refl
@@ -226,7 +223,7 @@ module _ (text : List ℕ) (at limit : ℕ) (c : Care) (n : ℕ) (piece rest : L
 pub number_agrees : (limit : ℕ) → Agrees (λ text at. number_at text at limit) (λ c n piece. Numeral c limit n piece) NoDigit
 number_agrees limit =
     record {
-      shaped = λ c n piece. numeral_shaped c limit n piece;
+      shaped = λ c n piece. numeral_eased (to_shape c) limit n piece;
       sample = (0, 48 ∷ [], naught limit);
       shared = number_shared limit;
       seen = number_seen limit;
