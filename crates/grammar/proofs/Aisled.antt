@@ -22,7 +22,7 @@ use Rattle.grammar.proofs.Agreeing.{Any, Via, then_then, agrees_same, agrees_as,
 use Rattle.grammar.proofs.Following.{ended, unended}
 use Rattle.grammar.proofs.Keeping.{kept_map, kept_both, list_under, as_it_is, list_within}
 use Rattle.grammar.proofs.Lists.{run, adds, Passes, Bracketed, listed, list_agrees}
-use Rattle.grammar.proofs.Numbers.{number_limited}
+use Rattle.grammar.proofs.Numbers.{number_limited, unlimited}
 use Rattle.grammar.proofs.Turning.{tries_first, tries_stay, onward_same, open_same}
 use Rattle.std.proofs.ByRecursion.{All-weaker}
 
@@ -50,7 +50,7 @@ abbrev Enough : ℕ → State → Type 0
 Enough n s = 65 ≤ s.1 + n
 
 abbrev running : ℕ → State → List ℕ → ℕ → Result (State × ℕ) Fault
-running = run 9999999999 add over falling too_high not_rising
+running = run unlimited add over falling too_high not_rising
 
 abbrev finish : Result Aisles Fault → Result (State × ℕ) Fault
 finish r = and_then r (λ a. Ok ((a.aisles, a.least), a.next))
@@ -96,7 +96,7 @@ module _ (text : List ℕ) where
   rest_same (suc n) s at =
       ap finish (tries_first (one_aisle text) (state s true at) n)
       ∙ ap (λ r. finish (and_then (and_then r (aisle s at)) (λ y. tries (one_aisle text) y n))) (number_limited text at 63)
-      ∙ turn_by n s at (number_at text at 9999999999) (λ v m. rest_same n (add s v) m)
+      ∙ turn_by n s at (number_at text at unlimited) (λ v m. rest_same n (add s v) m)
 
 enough_next : (n : ℕ) (s : State) (v : ℕ) → falling s v ≡ false → Enough (suc (suc n)) s → Enough (suc n) (add s v)
 enough_next n s v e h = omega (arith, h, ltb-false v s.1 e)
@@ -109,7 +109,7 @@ enough_last s v h =
     ]
 
 abbrev whole : List ℕ → ℕ → Result (State × ℕ) Fault
-whole = listed 9999999999 add over falling too_high not_rising (λ at s v. tt) (λ at s v. tt) Enough enough_next enough_last 64 (0, 0)
+whole = listed unlimited add over falling too_high not_rising (λ at s v. tt) (λ at s v. tt) Enough enough_next enough_last 64 (0, 0)
 
 abbrev route : State → Route
 route s = record { aisles = s.0 }
@@ -130,7 +130,7 @@ route_same text at =
     by_place (Err e) = refl
 
 abbrev Pass : State → List ℕ → Type 0
-Pass = Passes 9999999999 add over falling too_high not_rising
+Pass = Passes unlimited add over falling too_high not_rising
 
 pass_high : (s : State) (ks : List ℕ) → Pass s ks → AllByRecursion (λ k. k ≤ 63) ks
 pass_high s [] h = tt
@@ -145,12 +145,12 @@ passes s [] a r = tt
 passes s (k ∷ ks) a r = (le-ltb 63 k a.0, le-ltb k s.1 r.0, passes (add s k) ks a.1 r.1)
 
 -- the mask of the aisles added one by one
-adds_mask : (s : State) (ks : List ℕ) → (adds 9999999999 add over falling too_high not_rising s ks).0 ≡ with_aisles s.0 ks
+adds_mask : (s : State) (ks : List ℕ) → (adds unlimited add over falling too_high not_rising s ks).0 ≡ with_aisles s.0 ks
 adds_mask s [] = refl
 adds_mask s (k ∷ ks) = adds_mask (add s k) ks
 
 abbrev Aisling : Care → State → List ℕ → Type 0
-Aisling c t text = Bracketed 9999999999 add over falling too_high not_rising c (0, 0) t text
+Aisling c t text = Bracketed unlimited add over falling too_high not_rising c (0, 0) t text
 
 abbrev Routed : State → Care → Route → List ℕ → Type 0
 Routed t c r piece = (r ≡ route t) × (piece ≡ [])
@@ -160,7 +160,7 @@ route_agrees =
     agrees_same _ route_at RouteSpelt Any route_same
     (agrees_as _ (Via Aisling Routed) RouteSpelt Any to from
     (agrees_then whole (λ at t text m. Ok (route t, m)) Aisling Routed Any Any
-    (list_agrees 9999999999 add over falling too_high not_rising (λ at s v. tt) (λ at s v. tt) Enough enough_next enough_last 64 (0, 0) (omega arith))
+    (list_agrees unlimited add over falling too_high not_rising (λ at s v. tt) (λ at s v. tt) Enough enough_next enough_last 64 (0, 0) (omega arith))
     (λ at t. agrees_done (route t) Any) (λ c t r piece rest g s. tt)))
   where
     to : (c : Care) (r : Route) (text : List ℕ) → Via Aisling Routed c r text → RouteSpelt c r text
@@ -170,7 +170,7 @@ route_agrees =
         let mask : r.aisles ≡ with_aisles 0 ks = ap (λ (x : Route). x.aisles) v.parts.second.0 ∙ ap (λ (x : State). x.0) b.means ∙ adds_mask (0, 0) ks in
         record {
           aisles = ks;
-          listed = list_under (as_it_is c) 9999999999 63 ks text (kept_map c (pass_high (0, 0) ks) b.passes) b.spelt;
+          listed = list_under (as_it_is c) unlimited 63 ks text (kept_map c (pass_high (0, 0) ks) b.passes) b.spelt;
           rising = kept_map c (pass_rising (0, 0) ks) b.passes;
           means = mask;
         }
@@ -178,13 +178,13 @@ route_agrees =
     from : (c : Care) (r : Route) (text : List ℕ) → RouteSpelt c r text → Via Aisling Routed c r text
     from c r text s =
         let ks = s.aisles in
-        let t = adds 9999999999 add over falling too_high not_rising (0, 0) ks in
+        let t = adds unlimited add over falling too_high not_rising (0, 0) ks in
         let mask : r.aisles ≡ t.0 = s.means ∙ sym (adds_mask (0, 0) ks) in
         let same : r ≡ route t = ap (λ (x : ℕ). record { aisles = x }) mask in
         let low = list_within c 63 ks text s.listed in
         let b : Aisling c t text = record {
           numbers = ks;
-          spelt = list_under (as_it_is c) 63 9999999999 ks text (kept_map c (All-weaker (λ k. k ≤ 63) (λ k. k ≤ 9999999999) (λ k l. omega arith) ks) low) s.listed;
+          spelt = list_under (as_it_is c) 63 unlimited ks text (kept_map c (All-weaker (λ k. k ≤ 63) (λ k. k ≤ unlimited) (λ k l. omega arith) ks) low) s.listed;
           passes = kept_map c (λ h. passes (0, 0) ks h.0 h.1) (kept_both (AllByRecursion (λ k. k ≤ 63) ks) (RisingFrom 0 ks) c low s.rising);
           means = refl;
         } in

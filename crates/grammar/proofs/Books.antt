@@ -10,7 +10,7 @@ use Rattle.text.specs.Kinds.{order_opening, atom_opening, rule_opening, void_ope
 use Rattle.text.specs.Spelt.{up_to, space, list_text, kind_text, atom_text, rule_text, rule_line_of, end_text, book_text}
 use Rattle.writing.proofs.Gapless.{small_atoms, small_rules}
 use Rattle.writing.specs.Writes.{book_gap}
-use Rattle.grammar.specs.Pieces.{Care, kept, plain, Exactly}
+use Rattle.grammar.specs.Pieces.{Care, kept, plain, Exactly, largest}
 use Rattle.grammar.specs.Grammar.{Numbered, Declared, Body, AtomForm, RuleForm, AtomForms, RuleForms, Spells}
 use Rattle.grammar.proofs.Canonical.{numeral_canonical, numeral_unique, list_canonical, list_unique, up_to_same, up_to_first}
 use Rattle.grammar.proofs.Following.{followed_by, followed_unique}
@@ -37,27 +37,27 @@ lines_text f xs =
     up_to_same _ _ (λ i. ap (λ n. f n (slice_get xs i)) (same i)) (length xs) ∙ lines_on f 0 xs
 
 numbered_canonical : (k : ℕ) → k < 1024 → Numbered plain k (decimal k)
-numbered_canonical k l = record { number = k; spelt = numeral_canonical 4294967295 k (omega arith) (omega arith); next = refl }
+numbered_canonical k l = record { number = k; spelt = numeral_canonical largest k (omega arith) (omega arith); next = refl }
 
 numbered_unique : (k : ℕ) (text : List ℕ) → Numbered plain k text → text ≡ decimal k
-numbered_unique k text h = numeral_unique 4294967295 h.number text h.spelt ∙ ap decimal h.next
+numbered_unique k text h = numeral_unique largest h.number text h.spelt ∙ ap decimal h.next
 
 declared_canonical : (atoms n : ℕ) → atoms ≤ 1024 → n < atoms → Declared plain atoms n (decimal n)
-declared_canonical atoms n l h = record { spelt = numeral_canonical 4294967295 n (omega arith) (omega arith); declared = h }
+declared_canonical atoms n l h = record { spelt = numeral_canonical largest n (omega arith) (omega arith); declared = h }
 
 declared_unique : (atoms n : ℕ) (text : List ℕ) → Declared plain atoms n text → text ≡ decimal n
-declared_unique atoms n text h = numeral_unique 4294967295 n text h.spelt
+declared_unique atoms n text h = numeral_unique largest n text h.spelt
 
 body_canonical : (atoms : ℕ) (ns : List ℕ) → atoms ≤ 1024 → length ns ≤ 6 → AllByRecursion (λ n. n < atoms) ns → Body plain atoms ns (list_text ns)
 body_canonical atoms ns l few h =
     record {
-      listed = list_canonical 4294967295 ns (omega arith) (All-weaker (λ n. n < atoms) (λ n. n ≤ 4294967295) (λ n b. omega arith) ns h);
+      listed = list_canonical largest ns (omega arith) (All-weaker (λ n. n < atoms) (λ n. n ≤ largest) (λ n b. omega arith) ns h);
       few = few;
       declared = h;
     }
 
 body_unique : (atoms : ℕ) (ns text : List ℕ) → Body plain atoms ns text → text ≡ list_text ns
-body_unique atoms ns text h = list_unique 4294967295 ns text h.listed
+body_unique atoms ns text h = list_unique largest ns text h.listed
 
 exactly_unique : (word text : List ℕ) → Exactly word text → text ≡ word
 exactly_unique word text e = e

@@ -13,7 +13,7 @@ use Rattle.text.specs.Rules.{head_at, body_at, rule_at}
 use Rattle.text.specs.Spelt.{space}
 use Rattle.text.specs.Words.{pass_word, is_byte}
 use Rattle.text.specs.declared.site.Site.{Site}
-use Rattle.grammar.specs.Pieces.{Care, Kept, Exactly, Followed, Numeral}
+use Rattle.grammar.specs.Pieces.{Care, Kept, Exactly, Followed, Numeral, largest}
 use Rattle.grammar.specs.Grammar.{Numbered, Declared, Body}
 use Rattle.grammar.proofs.Agreement.{Agrees}
 use Rattle.grammar.proofs.Agreeing.{Any, Via, agrees_same, agrees_as, agrees_then, agrees_done, agrees_if, byte_then, word_then}
@@ -30,19 +30,19 @@ Known site v c n piece = Kept c (leb site.atoms v ≡ false) × ((n ≡ v) × (p
 pub head_agrees : (site : Site) → Agrees (λ text at. head_at text site at) (λ c n text. Declared c site.atoms n text) NoDigit
 head_agrees site =
     agrees_as _ _ _ NoDigit to from
-    (agrees_then (λ text at. number_at text at 4294967295) (λ at v text m. cond (leb site.atoms v) (Err (Reading (AtomMissing site.rule 0))) (Ok (v, m)))
-    (λ c v piece. Numeral c 4294967295 v piece) (Known site) NoDigit NoDigit (number_agrees 4294967295)
+    (agrees_then (λ text at. number_at text at largest) (λ at v text m. cond (leb site.atoms v) (Err (Reading (AtomMissing site.rule 0))) (Ok (v, m)))
+    (λ c v piece. Numeral c largest v piece) (Known site) NoDigit NoDigit (number_agrees largest)
     (λ at v. agrees_unless (Reading (AtomMissing site.rule 0)) tt (λ text m. Ok (v, m)) (λ c n piece. (n ≡ v) × (piece ≡ [])) NoDigit (agrees_done v NoDigit) (leb site.atoms v))
     (λ c v n piece rest h s. subst (λ p. NoDigit (p ++ rest)) (sym h.1.1) s))
   where
-    to : (c : Care) (n : ℕ) (text : List ℕ) → Via (λ c v piece. Numeral c 4294967295 v piece) (Known site) c n text → Declared c site.atoms n text
+    to : (c : Care) (n : ℕ) (text : List ℕ) → Via (λ c v piece. Numeral c largest v piece) (Known site) c n text → Declared c site.atoms n text
     to c n text v =
         let f = v.parts in
         let whole : text ≡ f.front = f.whole ∙ ap (λ t. f.front ++ t) f.second.1.1 ∙ append-nil f.front in
         subst (λ k. Declared c site.atoms k text) (sym f.second.1.0)
-        (record { spelt = subst (λ t. Numeral c 4294967295 v.value t) (sym whole) f.first; declared = kept_map c (leb-false site.atoms v.value) f.second.0 })
+        (record { spelt = subst (λ t. Numeral c largest v.value t) (sym whole) f.first; declared = kept_map c (leb-false site.atoms v.value) f.second.0 })
 
-    from : (c : Care) (n : ℕ) (text : List ℕ) → Declared c site.atoms n text → Via (λ c v piece. Numeral c 4294967295 v piece) (Known site) c n text
+    from : (c : Care) (n : ℕ) (text : List ℕ) → Declared c site.atoms n text → Via (λ c v piece. Numeral c largest v piece) (Known site) c n text
     from c n text d =
         record { value = n; parts = record { front = text; back = []; whole = sym (append-nil text); first = d.spelt; second = (kept_map c (lt-leb site.atoms n) d.declared, (refl, refl)) } }
 
@@ -52,7 +52,7 @@ module _ {Y : Type 0} (expected : ℕ) (K : List ℕ → ℕ → Result (Y × �
   Next v c y piece = Kept c (eqb v expected ≡ true) × G c y piece
 
   abbrev Spelt : Care → ℕ → List ℕ → Type 0
-  Spelt c v piece = Numeral c 4294967295 v piece
+  Spelt c v piece = Numeral c largest v piece
 
   next_to : (c : Care) (y : Y) (text : List ℕ) → Via Spelt Next c y text → Followed (Numbered c expected) (G c y) text
   next_to c y text v =
@@ -73,9 +73,9 @@ module _ {Y : Type 0} (expected : ℕ) (K : List ℕ → ℕ → Result (Y × �
 
   pub numbered_then : Agrees (λ text at. and_then (next_number text expected at) (K text)) (λ c y. Followed (Numbered c expected) (G c y)) Stop
   numbered_then =
-      agrees_same _ _ _ Stop (λ text at. next_same text at (number_at text at 4294967295))
+      agrees_same _ _ _ Stop (λ text at. next_same text at (number_at text at largest))
       (agrees_as _ (Via Spelt Next) _ Stop next_to next_from
-      (agrees_then (λ text at. number_at text at 4294967295) (λ at v text m. cond (eqb v expected) (K text m) (Err (Reading (Number at)))) Spelt Next NoDigit Stop (number_agrees 4294967295)
+      (agrees_then (λ text at. number_at text at largest) (λ at v text m. cond (eqb v expected) (K text m) (Err (Reading (Number at)))) Spelt Next NoDigit Stop (number_agrees largest)
       (λ at v. agrees_if (Reading (Number at)) tt K G Stop a (eqb v expected))
       (λ c v y piece rest h s. starts c y piece rest h.1)))
 

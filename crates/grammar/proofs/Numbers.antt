@@ -230,20 +230,23 @@ number_agrees limit =
       reads = λ c n piece rest text at g stop e. number_reads text at limit c n piece rest g stop e;
     }
 
--- ten digits are no more than this
-limited_by : (at limit : ℕ) (p : ℕ × ℕ) (empty longer : Result (ℕ × ℕ) Fault) (a b : Bool) → and_then empty (λ q. cond (ltb limit q.0) (Err (Reading (Number at))) (Ok q)) ≡ empty → and_then longer (λ q. cond (ltb limit q.0) (Err (Reading (Number at))) (Ok q)) ≡ longer → ltb 9999999999 p.0 ≡ false
-    → cond a empty (cond b longer (cond (ltb limit p.0) (Err (Reading (Number at))) (Ok p))) ≡ and_then (cond a empty (cond b longer (cond (ltb 9999999999 p.0) (Err (Reading (Number at))) (Ok p)))) (λ q. cond (ltb limit q.0) (Err (Reading (Number at))) (Ok q))
+-- ten digits are no more than this, so it limits no number
+abbrev pub unlimited : ℕ
+unlimited = 9999999999
+
+limited_by : (at limit : ℕ) (p : ℕ × ℕ) (empty longer : Result (ℕ × ℕ) Fault) (a b : Bool) → and_then empty (λ q. cond (ltb limit q.0) (Err (Reading (Number at))) (Ok q)) ≡ empty → and_then longer (λ q. cond (ltb limit q.0) (Err (Reading (Number at))) (Ok q)) ≡ longer → ltb unlimited p.0 ≡ false
+    → cond a empty (cond b longer (cond (ltb limit p.0) (Err (Reading (Number at))) (Ok p))) ≡ and_then (cond a empty (cond b longer (cond (ltb unlimited p.0) (Err (Reading (Number at))) (Ok p)))) (λ q. cond (ltb limit q.0) (Err (Reading (Number at))) (Ok q))
 limited_by at limit p empty longer true b n m e = sym n
 limited_by at limit p empty longer false true n m e = sym m
 limited_by at limit p empty longer false false n m e = ap (λ t. and_then (cond t (Err (Reading (Number at))) (Ok p)) (λ q. cond (ltb limit q.0) (Err (Reading (Number at))) (Ok q))) (sym e)
 
 -- a limit is a test of what is read without it
-pub number_limited : (text : List ℕ) (at limit : ℕ) → number_at text at limit ≡ and_then (number_at text at 9999999999) (λ q. cond (ltb limit q.0) (Err (Reading (Number at))) (Ok q))
+pub number_limited : (text : List ℕ) (at limit : ℕ) → number_at text at limit ≡ and_then (number_at text at unlimited) (λ q. cond (ltb limit q.0) (Err (Reading (Number at))) (Ok q))
 unfolding number_at
 number_limited text at limit =
     let r = run text at 10 in
     let p = digits_from text at 10 in
     let small : digits_value 10 r.piece < 10 ^ 10 = digits_value_short (numerals_by_value (AllDigits 10) tells_digits) r.piece 10 r.digits r.most in
     let same : p.0 ≡ digits_value 10 r.piece = ap (λ (q : ℕ × ℕ). q.0) r.found in
-    let low : p.0 ≤ 9999999999 = omega (arith, small, same) in
-    limited_by at limit p (wrong_at at) (wrong_at p.1) (eqb p.1 at) (is_some (digit_at text p.1)) refl refl (le-ltb 9999999999 p.0 low)
+    let low : p.0 ≤ unlimited = omega (arith, small, same) in
+    limited_by at limit p (wrong_at at) (wrong_at p.1) (eqb p.1 at) (is_some (digit_at text p.1)) refl refl (le-ltb unlimited p.0 low)

@@ -5,7 +5,7 @@ use Rattle.stamps.specs.declared.then.Then.{Then}
 use Rattle.text.specs.Bytes.{and_then, pass_at}
 use Rattle.text.specs.Numbers.{digit_of, number_at}
 use Rattle.text.specs.Stamps.{tick_at, pair_at}
-use Rattle.grammar.specs.Pieces.{Care, Exactly, Followed, Numeral}
+use Rattle.grammar.specs.Pieces.{Care, Exactly, Followed, Numeral, largest}
 use Rattle.grammar.specs.Stamps.{TickSpelt, PairSpelt}
 use Rattle.grammar.proofs.Agreement.{Agrees}
 use Rattle.grammar.proofs.Agreeing.{Any, Via, agrees_as, agrees_then, agrees_done, byte_then}
@@ -13,7 +13,7 @@ use Rattle.grammar.proofs.Following.{ended, unended, first_of, onto}
 use Rattle.grammar.proofs.Numbers.{number_agrees, NoDigit}
 
 abbrev Ticked : Care → ℕ → List ℕ → Type 0
-Ticked c v piece = Numeral c 4294967295 v piece
+Ticked c v piece = Numeral c largest v piece
 
 abbrev IsTick : ℕ → Care → Tick → List ℕ → Type 0
 IsTick v c t piece = (t ≡ record { 0 = v }) × (piece ≡ [])
@@ -21,7 +21,7 @@ IsTick v c t piece = (t ≡ record { 0 = v }) × (piece ≡ [])
 pub tick_agrees : Agrees tick_at TickSpelt NoDigit
 tick_agrees =
     agrees_as tick_at (Via Ticked IsTick) TickSpelt NoDigit to from
-    (agrees_then (λ text at. number_at text at 4294967295) (λ at v text m. Ok (record { 0 = v }, m)) Ticked IsTick NoDigit NoDigit (number_agrees 4294967295) (λ at v. agrees_done (record { 0 = v }) NoDigit)
+    (agrees_then (λ text at. number_at text at largest) (λ at v text m. Ok (record { 0 = v }, m)) Ticked IsTick NoDigit NoDigit (number_agrees largest) (λ at v. agrees_done (record { 0 = v }) NoDigit)
     (λ c v t piece rest h s. subst (λ p. NoDigit (p ++ rest)) (sym h.1) s))
   where
     to : (c : Care) (t : Tick) (text : List ℕ) → Via Ticked IsTick c t text → TickSpelt c t text
