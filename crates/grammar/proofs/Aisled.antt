@@ -16,7 +16,7 @@ use Rattle.text.specs.Words.{is_byte}
 use Rattle.text.specs.declared.aisles.Aisles.{Aisles}
 use Rattle.grammar.specs.Pieces.{Care}
 use Rattle.grammar.specs.Stamps.{RouteSpelt, RisingFrom, with_aisles}
-use Rattle.grammar.proofs.Agreement.{Agrees}
+use Rattle.grammar.specs.Agreement.{Agrees}
 use Rattle.grammar.proofs.Agreeing.{Any, Via, then_then, agrees_same, agrees_as, agrees_then, agrees_done}
 
 use Rattle.grammar.proofs.Following.{ended, unended}

@@ -15,7 +15,7 @@ use Rattle.text.specs.Words.{is_byte}
 use Rattle.text.specs.declared.site.Site.{Site}
 use Rattle.grammar.specs.Pieces.{Care, largest}
 use Rattle.grammar.specs.Grammar.{Body}
-use Rattle.grammar.proofs.Agreement.{Agrees}
+use Rattle.grammar.specs.Agreement.{Agrees}
 use Rattle.grammar.proofs.Agreeing.{Any, then_then, agrees_same, agrees_as}
 use Rattle.grammar.proofs.Keeping.{kept_map, kept_both}
 use Rattle.grammar.proofs.Lists.{run, adds, Passes, Bracketed, listed, list_agrees}

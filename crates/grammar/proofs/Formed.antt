@@ -15,13 +15,13 @@ use Rattle.text.specs.Words.{pass_word, is_byte}
 use Rattle.text.specs.declared.site.Site.{Site}
 use Rattle.grammar.specs.Pieces.{Care, Kept, Exactly, Followed, Numeral, largest}
 use Rattle.grammar.specs.Grammar.{Numbered, Declared, Body}
-use Rattle.grammar.proofs.Agreement.{Agrees}
+use Rattle.grammar.specs.Agreement.{Agrees, NoDigit}
 use Rattle.grammar.proofs.Agreeing.{Any, Via, agrees_same, agrees_as, agrees_then, agrees_done, agrees_if, byte_then, word_then}
 use Rattle.grammar.proofs.Bodies.{body_agrees}
 use Rattle.grammar.proofs.Choosing.{agrees_choice, agrees_unless}
 use Rattle.grammar.proofs.Following.{ended, unended, first_of, onto}
 use Rattle.grammar.proofs.Keeping.{kept_map}
-use Rattle.grammar.proofs.Numbers.{number_agrees, NoDigit}
+use Rattle.grammar.proofs.Numbers.{number_agrees}
 
 abbrev Known : Site → ℕ → Care → ℕ → List ℕ → Type 0
 Known site v c n piece = Kept c (leb site.atoms v ≡ false) × ((n ≡ v) × (piece ≡ []))

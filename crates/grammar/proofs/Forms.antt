@@ -14,14 +14,13 @@ use Rattle.text.specs.Words.{pass_word}
 use Rattle.text.specs.declared.reader.Room.{Room}
 use Rattle.grammar.specs.Pieces.{Care, Kept, Exactly, Followed}
 use Rattle.grammar.specs.Grammar.{Numbered}
-use Rattle.grammar.proofs.Agreement.{Agrees}
+use Rattle.grammar.specs.Agreement.{Agrees, NoDigit}
 use Rattle.grammar.proofs.Agreeing.{Any, Via, agrees_as, agrees_then, agrees_done, byte_then, word_then}
 use Rattle.grammar.proofs.Choosing.{agrees_unless}
 use Rattle.grammar.proofs.Dispatch.{end_word, rule_rest, void_rest, end_rest, atom_rest}
 use Rattle.grammar.proofs.Following.{ended, unended, word_to, word_from, first_of, ungroup, onto}
 use Rattle.grammar.proofs.Formed.{Parts, kind_agrees, numbered_then, rule_agrees}
 use Rattle.grammar.proofs.Keeping.{kept_map}
-use Rattle.grammar.proofs.Numbers.{NoDigit}
 
 -- where a piece begins with a byte that is no digit
 pub starts : (b : ℕ) (word : List ℕ) (A : List ℕ → Type 0) (piece rest : List ℕ) → digit_of (Some b) ≡ None → Followed (Exactly (b ∷ word)) A piece → NoDigit (piece ++ rest)

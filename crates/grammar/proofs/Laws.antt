@@ -10,7 +10,7 @@ use Rattle.text.specs.declared.reader.Room.{Room}
 use Rattle.text.specs.declared.reader.Stage.{Stage}
 use Rattle.writing.specs.Replies.{checked_text, canonical_at}
 use Rattle.writing.specs.Writes.{book_gap, write_answer}
-use Rattle.grammar.proofs.Agreement.{Agrees}
+use Rattle.grammar.specs.Agreement.{Agrees, NoDigit}
 use Rattle.grammar.specs.Notations.{Notation, ticks, routes, pairs}
 use Rattle.grammar.specs.Pieces.{kept, plain, shape}
 use Rattle.grammar.specs.Theorems.{read_as, written_of, ReadingIsTheGrammar, WrittenIsReadBack, AcceptedComesBack, CanonicalIsUnchanged, DegreesNest, AnswerIsItsOwn, RefusedAtTheFirstByte}
@@ -19,21 +19,13 @@ use Rattle.grammar.proofs.Aisled.{route_agrees}
 use Rattle.grammar.proofs.Books.{book_canonical, book_unique, spelt_held, spelt_gapless}
 use Rattle.grammar.proofs.Canonical.{tick_canonical, tick_unique, tick_fits, pair_canonical, pair_unique, pair_fits}
 use Rattle.grammar.proofs.Lines.{FormAt}
-use Rattle.grammar.proofs.Numbers.{NoDigit}
 use Rattle.grammar.proofs.Rests.{Going}
 use Rattle.grammar.proofs.Routes.{route_canonical, route_unique, route_fits}
 use Rattle.grammar.proofs.Staged.{forms_agree}
 use Rattle.grammar.proofs.Stamped.{tick_agrees, pair_agrees}
 use Rattle.grammar.proofs.Whole.{book_seen, book_reads, book_viable, book_none}
 use Rattle.grammar.proofs.Keeping.{plain_to_kept, to_shape, tick_eased, pair_eased, route_eased, book_eased}
-
--- what a kind of stamp keeps
-pub record Lawful {S : Type 0} (n : Notation S) : Type 0 where
-  agrees : Agrees n.stamp_at n.spells NoDigit
-  canonical : (s : S) → n.Fits s → n.spells plain s (n.spelt s)
-  unique : (s : S) (text : List ℕ) → n.spells plain s text → text ≡ n.spelt s
-  held : (s : S) (text : List ℕ) → n.spells kept s text → n.Fits s
-  plainly : (s : S) (text : List ℕ) → n.spells plain s text → n.spells kept s text
+use Rattle.grammar.specs.Lawful.{Lawful}
 
 pub lawful_ticks : Lawful ticks
 lawful_ticks =

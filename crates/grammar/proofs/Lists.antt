@@ -9,12 +9,12 @@ use Rattle.text.specs.Bytes.{and_then, pass_at}
 use Rattle.text.specs.Numbers.{digit_of, number_at}
 use Rattle.text.specs.Words.{is_byte}
 use Rattle.grammar.specs.Pieces.{Care, shape, Kept, Exactly, Followed, Numeral, Spaced, Listed}
-use Rattle.grammar.proofs.Agreement.{AtByte, Agrees}
+use Rattle.grammar.specs.Agreement.{AtByte, Agrees, NoDigit}
 use Rattle.grammar.proofs.Agreeing.{Any, Via, agrees_same, agrees_as, agrees_then, agrees_done, byte_then}
 use Rattle.grammar.proofs.Choosing.{agrees_choice, agrees_unless, agrees_never}
 use Rattle.grammar.proofs.Following.{followed_map, regroup, ungroup, ended, unended, first_of, onto}
 use Rattle.grammar.proofs.Keeping.{kept_map, kept_fact, kept_three, spaced_eased, to_shape}
-use Rattle.grammar.proofs.Numbers.{number_agrees, NoDigit}
+use Rattle.grammar.proofs.Numbers.{number_agrees}
 
 -- a number begins with a digit, which is no bracket
 pub starts_digit : (c : Care) (limit n : ℕ) (text rest : List ℕ) → Numeral c limit n text → is_byte 41 (slice_get (text ++ rest) 0) ≡ false

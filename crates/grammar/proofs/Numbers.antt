@@ -13,14 +13,10 @@ use Rattle.books.specs.declared.fault.Fault.TheVariants.{Reading}
 use Rattle.text.specs.Bytes.{and_then, wrong_at}
 use Rattle.text.specs.Numbers.{digit_of, digit_at, grown, one_more, digits_from, judged, number_at}
 use Rattle.text.specs.Turns.{turns}
-use Rattle.grammar.proofs.Agreement.{Same, Shared, Between, Seen, ShapeOnly, Reads, Agrees}
+use Rattle.grammar.specs.Agreement.{Same, Shared, Between, Seen, ShapeOnly, Reads, Agrees, NoDigit}
 use Rattle.grammar.specs.Pieces.{Care, shape, kept, plain, Kept, Numeral}
 use Rattle.grammar.proofs.Places.{slice_get_front, between_join, between_none, between_one, drop_past}
 use Rattle.grammar.proofs.Keeping.{to_shape, numeral_eased}
-
--- a text that does not begin with a digit
-abbrev pub NoDigit : List ℕ → Type 0
-NoDigit rest = digit_of (slice_get rest 0) ≡ None
 
 digit_value_is : (b : ℕ) → 48 ≤ b → b ≤ 57 → digit_value b ≡ b - 48
 digit_value_is b lo hi = rw (le-ltb b 48 lo, lt-ltb b 58 (omega arith)) refl

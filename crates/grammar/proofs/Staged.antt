@@ -13,7 +13,7 @@ use Rattle.text.specs.declared.reader.Stage.{Stage}
 use Rattle.text.specs.declared.reader.Stage.TheVariants.{Start, Atoms, Rules, End}
 use Rattle.grammar.specs.Pieces.{Care, Exactly, Followed}
 use Rattle.grammar.specs.Grammar.{OrderForm, Numbered, Declared, Body}
-use Rattle.grammar.proofs.Agreement.{Agrees}
+use Rattle.grammar.specs.Agreement.{Agrees, NoDigit}
 use Rattle.grammar.proofs.Agreeing.{Any, agrees_same, agrees_as, agrees_done, byte_then_at, word_then}
 use Rattle.grammar.proofs.Choosing.{agrees_choice}
 use Rattle.grammar.proofs.Dispatch.{atom_word, rule_word, void_word, rule_rest, void_rest, atom_rest, after_atom, after_rule, after_void, after_end, start_same, rules_same, atoms_same}
@@ -21,7 +21,6 @@ use Rattle.grammar.proofs.Following.{under, regroup, ungroup, ended, unended, wo
 use Rattle.grammar.proofs.Formed.{Parts}
 use Rattle.grammar.proofs.Forms.{RuleRest, rule_rest_agrees, VoidRest, void_rest_agrees, EndRest, end_rest_agrees, AtomRest, atom_rest_agrees}
 use Rattle.grammar.proofs.Lines.{LateForm, FormAt}
-use Rattle.grammar.proofs.Numbers.{NoDigit}
 use Rattle.grammar.proofs.Rests.{Going}
 
 -- the parts of a rule and the end of its form, bracketed as the grammar has them

@@ -7,10 +7,10 @@ use Rattle.text.specs.Numbers.{digit_of, number_at}
 use Rattle.text.specs.Stamps.{tick_at, pair_at}
 use Rattle.grammar.specs.Pieces.{Care, Exactly, Followed, Numeral, largest}
 use Rattle.grammar.specs.Stamps.{TickSpelt, PairSpelt}
-use Rattle.grammar.proofs.Agreement.{Agrees}
+use Rattle.grammar.specs.Agreement.{Agrees, NoDigit}
 use Rattle.grammar.proofs.Agreeing.{Any, Via, agrees_as, agrees_then, agrees_done, byte_then}
 use Rattle.grammar.proofs.Following.{ended, unended, first_of, onto}
-use Rattle.grammar.proofs.Numbers.{number_agrees, NoDigit}
+use Rattle.grammar.proofs.Numbers.{number_agrees}
 
 abbrev Ticked : Care → ℕ → List ℕ → Type 0
 Ticked c v piece = Numeral c largest v piece

@@ -14,7 +14,7 @@ use Rattle.text.specs.declared.reader.Stage.{Stage}
 use Rattle.text.specs.declared.reader.Stage.TheVariants.{Start}
 use Rattle.grammar.specs.Pieces.{Care, shape, kept, Kept}
 use Rattle.grammar.specs.Grammar.{Spells}
-use Rattle.grammar.proofs.Agreement.{AtByte, Same, Shared, Between, Seen, ShapeOnly, Reads, Agrees}
+use Rattle.grammar.specs.Agreement.{AtByte, Same, Shared, Between, Seen, ShapeOnly, Reads, Agrees}
 use Rattle.grammar.proofs.Agreeing.{Reaches, Via, agrees_then, shared_from}
 use Rattle.grammar.proofs.Lines.{FormAt}
 use Rattle.grammar.proofs.Onward.{lines, Lines, lines_rest, start_lines, lines_agree}
