@@ -12,7 +12,7 @@ use Rattle.writing.specs.Replies.{checked_text, canonical_at}
 use Rattle.writing.specs.Writes.{book_gap, write_answer}
 use Rattle.grammar.specs.Agreement.{Agrees, NoDigit}
 use Rattle.grammar.specs.Notations.{Notation, ticks, routes, pairs}
-use Rattle.grammar.specs.Pieces.{kept, plain, shape}
+use Rattle.grammar.specs.Pieces.{kept}
 use Rattle.grammar.specs.Theorems.{read_as, written_of, ReadingIsTheGrammar, WrittenIsReadBack, AcceptedComesBack, CanonicalIsUnchanged, DegreesNest, AnswerIsItsOwn, RefusedAtTheFirstByte}
 use Rattle.grammar.proofs.Agreeing.{Any, agrees_before}
 use Rattle.grammar.proofs.Aisled.{route_agrees}

@@ -2,53 +2,15 @@
 // Each function below computes nothing: its contract is a theorem about the definitions of `grammar`'s specs/.
 #![tactic(auto)]
 
-ghost use Rattle.grammar.proofs.Laws.{lawful_ticks, lawful_routes, lawful_pairs};
-ghost use Rattle.grammar.specs.Lawful.{Lawful};
-ghost use Rattle.grammar.specs.Notations.{notation_of, ticks, routes, pairs};
-ghost use Rattle.grammar.specs.Pieces.{Care};
-ghost use Rattle.grammar.specs.Theorems.{ReadingIsTheGrammar, DegreesNest};
-ghost use Rattle.std.specs.Prelude.{ℕ, List};
+pub mod notated;
 
+ghost use Rattle.grammar.specs.Notations.{notation_of, ticks, routes, pairs};
+ghost use Rattle.grammar.specs.Theorems.{ReadingIsTheGrammar, WrittenIsReadBack, AcceptedComesBack, CanonicalIsUnchanged, DegreesNest, AnswerIsItsOwn, RefusedAtTheFirstByte, TextLaws};
+
+use notated::Notated;
 use stamps::route::Route;
 use stamps::then::Then;
 use stamps::tick::Tick;
-use text::stamp::Spelled;
-
-// A kind of stamp that the grammar has.
-pub trait Notated: Spelled {
-    // The texts that spell a stamp.
-    ghost spells: { Care → Self → List ℕ → Type 0 };
-
-    // Which stamps the machine holds.
-    ghost fits: { Self → Type 0 };
-
-    // A stamp is read as it is spelt, and written so.
-    ghost lawful: { Lawful (notation_of Self.spelling Self.stamp_at Self.spelt spells fits) };
-}
-
-impl Notated for Tick {
-    ghost spells = { ticks.spells };
-
-    ghost fits = { ticks.Fits };
-
-    ghost lawful = { lawful_ticks };
-}
-
-impl Notated for Route {
-    ghost spells = { routes.spells };
-
-    ghost fits = { routes.Fits };
-
-    ghost lawful = { lawful_routes };
-}
-
-impl Notated for Then<Tick, Tick> {
-    ghost spells = { pairs.spells };
-
-    ghost fits = { pairs.Fits };
-
-    ghost lawful = { lawful_pairs };
-}
 
 // A text is read as a book exactly where it spells that book by the grammar and the tables take it;
 // and each degree of the grammar keeps what the lower one keeps.
@@ -57,8 +19,46 @@ pub fn reading_is_the_grammar<S: Notated>()
     ensures degrees { DegreesNest (notation_of S.spelling S.stamp_at S.spelt S.spells S.fits) }
 {}
 
-pub fn reading_ticks()
-    ensures { ReadingIsTheGrammar ticks }
+// A book written out and read in is the same book.
+pub fn written_is_read_back<S: Notated>()
+    ensures { WrittenIsReadBack (notation_of S.spelling S.stamp_at S.spelt S.spells S.fits) }
+{}
+
+// The book of an accepted text can be written; what is written is canonical, and is read as the same book.
+pub fn accepted_comes_back<S: Notated>()
+    ensures { AcceptedComesBack (notation_of S.spelling S.stamp_at S.spelt S.spells S.fits) }
+{}
+
+// A text with no leading zero is read as its book, and is what is written of it; and what `canonical` answers to a text,
+// it answers to that answer.
+pub fn canonical_is_unchanged<S: Notated>()
+    ensures unchanged { CanonicalIsUnchanged (notation_of S.spelling S.stamp_at S.spelt S.spells S.fits) }
+    ensures answer { AnswerIsItsOwn (notation_of S.spelling S.stamp_at S.spelt S.spells S.fits) }
+{}
+
+// Where a byte is refused, what stands before it begins a text of the grammar's shape, and with it begins none.
+pub fn refused_at_the_first_byte<S: Notated>()
+    ensures { RefusedAtTheFirstByte (notation_of S.spelling S.stamp_at S.spelt S.spells S.fits) }
+{}
+
+// All of these laws.
+pub fn text_laws<S: Notated>()
+    ensures { TextLaws (notation_of S.spelling S.stamp_at S.spelt S.spells S.fits) }
 {
-    reading_is_the_grammar::<Tick>()
+    reading_is_the_grammar::<S>();
+    written_is_read_back::<S>();
+    accepted_comes_back::<S>();
+    canonical_is_unchanged::<S>();
+    refused_at_the_first_byte::<S>();
+}
+
+// All of them, of ticks, of routes and of pairs of ticks.
+pub fn three_kinds_keep_the_laws()
+    ensures of_ticks { TextLaws ticks }
+    ensures of_routes { TextLaws routes }
+    ensures of_pairs { TextLaws pairs }
+{
+    text_laws::<Tick>();
+    text_laws::<Route>();
+    text_laws::<Then<Tick, Tick>>();
 }
