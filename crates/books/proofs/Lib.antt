@@ -1,6 +1,5 @@
 pub mod First
 pub mod Judging
 pub mod Places
-pub mod Stamps
 pub mod Verdicts
 pub mod Literals

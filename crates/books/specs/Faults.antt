@@ -7,11 +7,13 @@ use Rattle.books.specs.declared.fault.Refusal.{Refusal}
 use Rattle.books.specs.declared.fault.ReadFault.{ReadFault}
 use Rattle.books.specs.declared.fault.ReadFault.TheVariants.{Byte, NotRising, Number, TooMany, AtomMissing}
 use Rattle.books.specs.declared.fault.CheckFault.{CheckFault}
-use Rattle.books.specs.declared.fault.CheckFault.TheVariants.{TooLarge, BodyTooLong, HeadMissing, HeadIsReading, LiteralMissing, PositiveOutOfOrder, NegativeOutOfOrder, SlotMissing, RuleMissing, SheetTooShort}
+use Rattle.books.specs.declared.fault.CheckFault.TheVariants.{TooLarge, BodyTooLong, HeadMissing, HeadIsReading, LiteralMissing, PositiveOutOfOrder, NegativeOutOfOrder}
+use Rattle.books.specs.declared.fault.MakeFault.{MakeFault}
+use Rattle.books.specs.declared.fault.MakeFault.TheVariants.{SlotMissing, RuleMissing, SheetTooShort}
 use Rattle.books.specs.declared.fault.Fault.{Fault}
 use Rattle.books.specs.declared.fault.Fault.TheVariants as fault
 
--- a refusal of the check, with the rule and the literal that it names
+-- a refusal of the check or of a making, with the rule and the literal that it names
 abbrev pub checking_at : ℕ → ℕ → ℕ → Refusal
 checking_at number rule literal = record { layer = Checking; number = number; values = RuleLiteral rule literal }
 
@@ -23,9 +25,11 @@ check_refusal (HeadIsReading rule) = checking_at 5 rule 0
 check_refusal (LiteralMissing rule literal) = checking_at 4 rule literal
 check_refusal (PositiveOutOfOrder rule literal) = checking_at 6 rule literal
 check_refusal (NegativeOutOfOrder rule literal) = checking_at 7 rule literal
-check_refusal (SlotMissing pattern literal) = checking_at 4 pattern literal
-check_refusal (RuleMissing rule) = checking_at 4 rule 0
-check_refusal (SheetTooShort needed) = record { layer = Checking; number = 17; values = One needed }
+
+abbrev pub make_refusal : MakeFault → Refusal
+make_refusal (SlotMissing pattern literal) = checking_at 4 pattern literal
+make_refusal (RuleMissing rule) = checking_at 4 rule 0
+make_refusal (SheetTooShort needed) = record { layer = Checking; number = 17; values = One needed }
 
 -- a refusal of the reader, with what it names
 abbrev pub reading_at : ℕ → Values → Refusal
@@ -41,3 +45,4 @@ read_refusal (AtomMissing rule literal) = reading_at 4 (RuleLiteral rule literal
 abbrev pub refusal_of : Fault → Refusal
 refusal_of (fault.Reading f) = read_refusal f
 refusal_of (fault.Checking f) = check_refusal f
+refusal_of (fault.Making f) = make_refusal f

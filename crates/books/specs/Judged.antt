@@ -3,11 +3,11 @@ use Rattle.std.specs.Prelude.{◌≡◌, ℕ, ◌+◌, ◌*◌, ◌<◌, ◌≤�
 use Rattle.std.specs.Bool.{IsTrue}
 use Rattle.std.specs.List.{slice_get, AllByRecursion}
 use Rattle.books.specs.Meaning.{Rule, Meaning, rule_at, literals, stamp_of, reading_of}
+use Rattle.stamps.specs.Orders.{Tests}
 use Rattle.books.specs.declared.fault.CheckFault.{CheckFault}
-use Rattle.books.specs.declared.fault.CheckFault.TheVariants.{TooLarge, BodyTooLong, HeadMissing, HeadIsReading, LiteralMissing, PositiveOutOfOrder, NegativeOutOfOrder, SlotMissing, RuleMissing, SheetTooShort}
+use Rattle.books.specs.declared.fault.CheckFault.TheVariants.{TooLarge, BodyTooLong, HeadMissing, HeadIsReading, LiteralMissing, PositiveOutOfOrder, NegativeOutOfOrder}
 use Rattle.books.specs.declared.fault.Fault.{Fault}
 use Rattle.books.specs.declared.fault.Fault.TheVariants.{Checking}
-use Rattle.stamps.specs.Orders.{Tests}
 
 -- both stamps are there and pass the test
 abbrev pub both_pass : {S : Type 0} → (S → S → Bool) → Option S → Option S → Bool
@@ -46,7 +46,7 @@ OfLiteral m k l P = OfRule m k (λ r. (i : ℕ) × (l ≡ i + 1) × ((a : ℕ) �
 abbrev pub Fails : {S : Type 0} → (S → S → Bool) → Meaning S → ℕ → ℕ → Type 0
 Fails {S} test m a b = (s : S) × (t : S) × (stamp_of m a ≡ Some s) × (stamp_of m b ≡ Some t) × (test s t ≡ false)
 
--- what a fault says of a book; faults of making, striking and writing say nothing of one
+-- what a fault says of a book
 abbrev pub Breaks : {S : Type 0} → Tests S → Meaning S → CheckFault → Type 0
 Breaks tests m TooLarge = (1024 < length m.atoms) ⊎ (1024 < length m.rules)
 Breaks tests m (BodyTooLong k) = OfRule m k (λ r. (6 < length r.positives) ⊎ (6 < length r.negatives))
@@ -55,9 +55,6 @@ Breaks tests m (HeadIsReading k) = OfRule m k (λ r. reading_of m r.head ≡ Som
 Breaks tests m (LiteralMissing k l) = OfLiteral m k l (λ r i a. length m.atoms ≤ a)
 Breaks tests m (PositiveOutOfOrder k l) = OfLiteral m k l (λ r i a. (i < length r.positives) × Fails tests.not_after m a r.head)
 Breaks tests m (NegativeOutOfOrder k l) = OfLiteral m k l (λ r i a. (length r.positives ≤ i) × Fails tests.before m a r.head)
-Breaks tests m (SlotMissing p l) = ⊥
-Breaks tests m (RuleMissing k) = ⊥
-Breaks tests m (SheetTooShort n) = ⊥
 
 -- the rule in which a fault lies
 abbrev pub rule_of : CheckFault → ℕ
@@ -68,9 +65,6 @@ rule_of (HeadIsReading k) = k
 rule_of (LiteralMissing k l) = k
 rule_of (PositiveOutOfOrder k l) = k
 rule_of (NegativeOutOfOrder k l) = k
-rule_of (SlotMissing p l) = 0
-rule_of (RuleMissing k) = 0
-rule_of (SheetTooShort n) = 0
 
 -- in which order a rule is tested: lengths, head there, head no reading, then of each literal that it is there and its stamp
 abbrev pub step_of : CheckFault → ℕ
@@ -81,9 +75,6 @@ step_of (HeadIsReading k) = 2
 step_of (LiteralMissing k l) = 2 * l + 1
 step_of (PositiveOutOfOrder k l) = 2 * l + 2
 step_of (NegativeOutOfOrder k l) = 2 * l + 2
-step_of (SlotMissing p l) = 0
-step_of (RuleMissing k) = 0
-step_of (SheetTooShort n) = 0
 
 -- whether the fault is one of the counts
 abbrev pub of_counts : CheckFault → Bool
@@ -94,9 +85,6 @@ of_counts (HeadIsReading k) = false
 of_counts (LiteralMissing k l) = false
 of_counts (PositiveOutOfOrder k l) = false
 of_counts (NegativeOutOfOrder k l) = false
-of_counts (SlotMissing p l) = false
-of_counts (RuleMissing k) = false
-of_counts (SheetTooShort n) = false
 
 -- the first fault is looked for before the second: counts, then rules by number, then the steps in a rule
 abbrev pub Precedes : CheckFault → CheckFault → Type 0

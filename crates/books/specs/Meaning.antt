@@ -1,7 +1,9 @@
 -- What a book means: its atoms and its rules, and what each question about them answers.
-use Rattle.std.specs.Prelude.{ℕ, Bool, List, ◌++◌, length, Some, None, Option}
+use Rattle.std.specs.Prelude.{ℕ, Bool, List, ◌++◌, length, Option}
 use Rattle.std.specs.List.{slice_get}
-use Rattle.std.specs.Option.{option_map, option_flatten}
+use Rattle.std.specs.Option.{option_map, option_and_then, option_flatten}
+use Rattle.books.specs.declared.book.Sign.{Sign}
+use Rattle.books.specs.declared.book.Sign.TheVariants.{Positive, Negative}
 
 -- the head follows where all positive atoms hold and no negative atom does
 pub record Rule : Type 0 where
@@ -19,11 +21,6 @@ pub record Meaning (S : Type 0) : Type 0 where
   pub atoms : List (Atom S)
   pub rules : List (Option Rule)
 
--- what f finds for the thing that is there, if one is
-abbrev pub bind_some : {X Y : Type 0} → (X → Option Y) → Option X → Option Y
-bind_some f None = None
-bind_some f (Some x) = f x
-
 -- the rule of that number; none beyond the count and for a vacant number
 abbrev pub rule_at : {S : Type 0} → Meaning S → ℕ → Option Rule
 rule_at m k = option_flatten (slice_get m.rules k)
@@ -39,18 +36,17 @@ reading_of m a = option_map (λ (x : Atom _). x.reading) (slice_get m.atoms a)
 abbrev pub head_of : {S : Type 0} → Meaning S → ℕ → Option ℕ
 head_of m k = option_map (λ (r : Rule). r.head) (rule_at m k)
 
-abbrev pub positive_count_of : {S : Type 0} → Meaning S → ℕ → Option ℕ
-positive_count_of m k = option_map (λ (r : Rule). length r.positives) (rule_at m k)
+-- the rule's list of that sign
+abbrev pub of_sign : Sign → Rule → List ℕ
+of_sign Positive r = r.positives
+of_sign Negative r = r.negatives
 
-abbrev pub negative_count_of : {S : Type 0} → Meaning S → ℕ → Option ℕ
-negative_count_of m k = option_map (λ (r : Rule). length r.negatives) (rule_at m k)
+abbrev pub body_count_of : {S : Type 0} → Meaning S → ℕ → Sign → Option ℕ
+body_count_of m k sign = option_map (λ (r : Rule). length (of_sign sign r)) (rule_at m k)
 
--- positive atom i of the rule; none beyond the list's length
-abbrev pub positive_of : {S : Type 0} → Meaning S → ℕ → ℕ → Option ℕ
-positive_of m k i = bind_some (λ (r : Rule). slice_get r.positives i) (rule_at m k)
-
-abbrev pub negative_of : {S : Type 0} → Meaning S → ℕ → ℕ → Option ℕ
-negative_of m k i = bind_some (λ (r : Rule). slice_get r.negatives i) (rule_at m k)
+-- atom i of that list; none beyond its length
+abbrev pub body_atom_of : {S : Type 0} → Meaning S → ℕ → Sign → ℕ → Option ℕ
+body_atom_of m k sign i = option_and_then (λ (r : Rule). slice_get (of_sign sign r) i) (rule_at m k)
 
 -- a rule's literals, positives first; literal number i + 1 stands at i
 abbrev pub literals : Rule → List ℕ
@@ -58,4 +54,4 @@ literals r = r.positives ++ r.negatives
 
 -- the atom of literal i + 1 of the rule
 abbrev pub literal_of : {S : Type 0} → Meaning S → ℕ → ℕ → Option ℕ
-literal_of m k i = bind_some (λ (r : Rule). slice_get (literals r) i) (rule_at m k)
+literal_of m k i = option_and_then (λ (r : Rule). slice_get (literals r) i) (rule_at m k)

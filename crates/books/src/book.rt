@@ -1,8 +1,15 @@
 // The questions that every make of book answers.
 ghost use Rattle.std.specs.Prelude.{◌≡◌, length};
-ghost use Rattle.books.specs.Meaning.{Meaning, stamp_of, reading_of, head_of, positive_count_of, negative_count_of, positive_of, negative_of};
+ghost use Rattle.books.specs.Meaning.{Meaning, stamp_of, reading_of, head_of, body_count_of, body_atom_of};
 
 use stamps::order::Order;
+
+// Which of a rule's two lists: the positive atoms, or the negative ones.
+#[derive(Clone, Copy, PartialEq, Eq, Debug)]
+pub enum Sign {
+    Positive,
+    Negative,
+}
 
 // A list of filled-in rules over stamped atoms. Each question answers by the meaning and changes nothing.
 pub trait Book {
@@ -28,16 +35,11 @@ pub trait Book {
     fn head(&self, rule: usize) -> Option<usize>
         ensures { result ≡ head_of (meaning self.now) rule };
 
-    fn positive_count(&self, rule: usize) -> Option<usize>
-        ensures { result ≡ positive_count_of (meaning self.now) rule };
+    // The length of the rule's list of that sign.
+    fn body_count(&self, rule: usize, sign: Sign) -> Option<usize>
+        ensures { result ≡ body_count_of (meaning self.now) rule sign };
 
-    fn negative_count(&self, rule: usize) -> Option<usize>
-        ensures { result ≡ negative_count_of (meaning self.now) rule };
-
-    // Positive atom `i` of the rule; none beyond the list's length.
-    fn positive(&self, rule: usize, i: usize) -> Option<usize>
-        ensures { result ≡ positive_of (meaning self.now) rule i };
-
-    fn negative(&self, rule: usize, i: usize) -> Option<usize>
-        ensures { result ≡ negative_of (meaning self.now) rule i };
+    // Atom `i` of that list; none beyond its length.
+    fn body_atom(&self, rule: usize, sign: Sign, i: usize) -> Option<usize>
+        ensures { result ≡ body_atom_of (meaning self.now) rule sign i };
 }

@@ -1,6 +1,7 @@
 // Refusals: what was refused, with its layer, number and values.
 ghost use Rattle.std.specs.Prelude.{◌≡◌};
-ghost use Rattle.books.specs.Faults.{refusal_of};
+ghost use Rattle.books.specs.Faults.{read_refusal, check_refusal, make_refusal, refusal_of};
+ghost use Rattle.books.specs.declared.fault.Fault.TheVariants.{Reading, Checking, Making};
 
 use std::fmt;
 
@@ -38,7 +39,7 @@ pub enum ReadFault {
     AtomMissing { rule: usize, literal: usize },
 }
 
-// What the check refuses, and the making, striking and writing of books. Literals count from 1, positives first.
+// What the check refuses. Literals count from 1, positives first.
 #[derive(Clone, Copy, PartialEq, Eq, Debug)]
 pub enum CheckFault {
     TooLarge,
@@ -48,8 +49,14 @@ pub enum CheckFault {
     LiteralMissing { rule: usize, literal: usize },
     PositiveOutOfOrder { rule: usize, literal: usize },
     NegativeOutOfOrder { rule: usize, literal: usize },
+}
+
+// What making, striking and writing a book refuse besides. Literals count from 1; a pattern's head is literal 0.
+#[derive(Clone, Copy, PartialEq, Eq, Debug)]
+pub enum MakeFault {
     SlotMissing { pattern: usize, literal: usize },
     RuleMissing { rule: usize },
+    // The bytes that the text needs.
     SheetTooShort { needed: usize },
 }
 
@@ -58,62 +65,103 @@ pub enum CheckFault {
 pub enum Fault {
     Reading(ReadFault),
     Checking(CheckFault),
+    // Told under the checking layer.
+    Making(MakeFault),
+}
+
+impl From<ReadFault> for Fault {
+    ghost from_gives = { λ fault all. all ≡ Reading fault };
+
+    fn from(fault: ReadFault) -> Fault {
+        Fault::Reading(fault)
+    }
+}
+
+impl From<CheckFault> for Fault {
+    ghost from_gives = { λ fault all. all ≡ Checking fault };
+
+    fn from(fault: CheckFault) -> Fault {
+        Fault::Checking(fault)
+    }
+}
+
+impl From<MakeFault> for Fault {
+    ghost from_gives = { λ fault all. all ≡ Making fault };
+
+    fn from(fault: MakeFault) -> Fault {
+        Fault::Making(fault)
+    }
+}
+
+// The numbers of the refusals stand in the three functions below, and nowhere else.
+impl ReadFault {
+    fn refusal(&self) -> Refusal
+        ensures { result ≡ read_refusal self.now }
+    {
+        let (number, values) = match *self {
+            ReadFault::Byte { place } | ReadFault::NotRising { place } => (1, Values::One(place)),
+            ReadFault::Number { place } => (2, Values::One(place)),
+            ReadFault::TooMany { place } => (3, Values::One(place)),
+            ReadFault::AtomMissing { rule, literal } => (4, Values::RuleLiteral(rule, literal)),
+        };
+        Refusal {
+            layer: Layer::Reading,
+            number,
+            values,
+        }
+    }
+}
+
+impl CheckFault {
+    fn refusal(&self) -> Refusal
+        ensures { result ≡ check_refusal self.now }
+    {
+        let (number, rule, literal) = match *self {
+            CheckFault::TooLarge => (3, 0, 0),
+            CheckFault::BodyTooLong { rule } => (3, rule, 0),
+            CheckFault::HeadMissing { rule } => (4, rule, 0),
+            CheckFault::HeadIsReading { rule } => (5, rule, 0),
+            CheckFault::LiteralMissing { rule, literal } => (4, rule, literal),
+            CheckFault::PositiveOutOfOrder { rule, literal } => (6, rule, literal),
+            CheckFault::NegativeOutOfOrder { rule, literal } => (7, rule, literal),
+        };
+        Refusal {
+            layer: Layer::Checking,
+            number,
+            values: Values::RuleLiteral(rule, literal),
+        }
+    }
+}
+
+impl MakeFault {
+    fn refusal(&self) -> Refusal
+        ensures { result ≡ make_refusal self.now }
+    {
+        let (number, values) = match *self {
+            MakeFault::SlotMissing { pattern, literal } => (
+                4,
+                Values::RuleLiteral(pattern, literal),
+            ),
+            MakeFault::RuleMissing { rule } => (4, Values::RuleLiteral(rule, 0)),
+            MakeFault::SheetTooShort { needed } => (17, Values::One(needed)),
+        };
+        Refusal {
+            layer: Layer::Checking,
+            number,
+            values,
+        }
+    }
 }
 
 impl Fault {
-    // The one place that knows a refusal's number.
+    // The refusal as it is told.
     pub fn refusal(&self) -> Refusal
         ensures { result ≡ refusal_of self.now }
     {
         match self {
-            Fault::Reading(fault) => {
-                let (number, values) = match *fault {
-                    ReadFault::Byte { place } => (1, Values::One(place)),
-                    ReadFault::NotRising { place } => (1, Values::One(place)),
-                    ReadFault::Number { place } => (2, Values::One(place)),
-                    ReadFault::TooMany { place } => (3, Values::One(place)),
-                    ReadFault::AtomMissing { rule, literal } => (
-                        4,
-                        Values::RuleLiteral(rule, literal),
-                    ),
-                };
-                Refusal {
-                    layer: Layer::Reading,
-                    number,
-                    values,
-                }
-            }
-            Fault::Checking(fault) => {
-                let (number, values) = match *fault {
-                    CheckFault::TooLarge => (3, Values::RuleLiteral(0, 0)),
-                    CheckFault::BodyTooLong { rule } => (3, Values::RuleLiteral(rule, 0)),
-                    CheckFault::HeadMissing { rule } => (4, Values::RuleLiteral(rule, 0)),
-                    CheckFault::HeadIsReading { rule } => (5, Values::RuleLiteral(rule, 0)),
-                    CheckFault::LiteralMissing { rule, literal } => (
-                        4,
-                        Values::RuleLiteral(rule, literal),
-                    ),
-                    CheckFault::PositiveOutOfOrder { rule, literal } => (
-                        6,
-                        Values::RuleLiteral(rule, literal),
-                    ),
-                    CheckFault::NegativeOutOfOrder { rule, literal } => (
-                        7,
-                        Values::RuleLiteral(rule, literal),
-                    ),
-                    CheckFault::SlotMissing { pattern, literal } => (
-                        4,
-                        Values::RuleLiteral(pattern, literal),
-                    ),
-                    CheckFault::RuleMissing { rule } => (4, Values::RuleLiteral(rule, 0)),
-                    CheckFault::SheetTooShort { needed } => (17, Values::One(needed)),
-                };
-                Refusal {
-                    layer: Layer::Checking,
-                    number,
-                    values,
-                }
-            }
+            Fault::Reading(read) => read.refusal(),
+            Fault::Checking(check) => check.refusal(),
+            Fault::Making(make) => make.refusal(),
         }
     }
 }

@@ -4,3 +4,4 @@
 pub mod book;
 pub mod check;
 pub mod fault;
+pub mod walk;

@@ -1,5 +1,5 @@
 // A rule as a line of text.
-use books::book::Book;
+use books::book::{Book, Sign};
 use std::fmt;
 use std::fmt::Display;
 
@@ -29,14 +29,6 @@ where
     }
 }
 
-fn write_joint<W: fmt::Write>(first: bool, f: &mut fmt::Formatter<W>) -> fmt::Result {
-    if first {
-        write!(f, " if ")
-    } else {
-        write!(f, " and ")
-    }
-}
-
 impl<B: Book> Display for RuleLine<'_, B>
 where
     B::Stamp: Display,
@@ -48,18 +40,15 @@ where
         };
         write!(f, "rule {rule}: ")?;
         write_atom(self, head, f)?;
-        let positives = self.book.positive_count(rule).unwrap_or(0);
-        for i in 0..positives {
-            if let Some(atom) = self.book.positive(rule, i) {
-                write_joint(i == 0, f)?;
-                write_atom(self, atom, f)?;
-            }
-        }
-        for i in 0..self.book.negative_count(rule).unwrap_or(0) {
-            if let Some(atom) = self.book.negative(rule, i) {
-                write_joint(positives == 0 && i == 0, f)?;
-                write!(f, "not ")?;
-                write_atom(self, atom, f)?;
+        let mut first = true;
+        for (sign, no) in [(Sign::Positive, ""), (Sign::Negative, "not ")] {
+            for i in 0..self.book.body_count(rule, sign).unwrap_or(0) {
+                if let Some(atom) = self.book.body_atom(rule, sign, i) {
+                    let joint = if first { "if" } else { "and" };
+                    write!(f, " {joint} {no}")?;
+                    write_atom(self, atom, f)?;
+                    first = false;
+                }
             }
         }
         Ok(())

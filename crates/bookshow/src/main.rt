@@ -7,7 +7,7 @@ use anyhow::anyhow;
 use books::book::Book;
 use books::check::{check, check_rule};
 use lines::RuleLine;
-use makes::body::Body;
+use makes::body::{Body, TooLong};
 use makes::flat::Flat;
 use makes::patterns::{Pattern, Slot, Step};
 use makes::repeating::Repeating;
@@ -25,25 +25,17 @@ const NAMES: [&str; 6] = [
     "shuttle 3 may go round by aisle 9",
 ];
 
-fn reading(tick: u32) -> AtomRow<Tick> {
+fn atom(tick: u32, reading: bool) -> AtomRow<Tick> {
     AtomRow {
         stamp: Tick(tick),
-        reading: true,
-    }
-}
-
-fn derived(tick: u32) -> AtomRow<Tick> {
-    AtomRow {
-        stamp: Tick(tick),
-        reading: false,
+        reading,
     }
 }
 
 fn rule(head: usize, positives: &[usize], negatives: &[usize]) -> anyhow::Result<Option<RuleRow>> {
-    match RuleRow::of(head, positives, negatives) {
-        Some(row) => Ok(Some(row)),
-        None => Err(anyhow!("a list has more than six atoms")),
-    }
+    RuleRow::of(head, positives, negatives)
+        .map(Some)
+        .map_err(|_| anyhow!("a list has more than six atoms"))
 }
 
 // Prints each rule as it is tested, and the verdict.
@@ -69,12 +61,12 @@ where
 
 fn flat(rt: &HostRuntime) -> anyhow::Result<()> {
     let atoms = [
-        reading(1),
-        reading(2),
-        derived(2),
-        derived(3),
-        derived(3),
-        derived(3),
+        atom(1, true),
+        atom(2, true),
+        atom(2, false),
+        atom(3, false),
+        atom(3, false),
+        atom(3, false),
     ];
     let mut rules = [
         rule(2, &[1], &[])?,
@@ -118,8 +110,8 @@ fn before(slot: usize) -> Step {
     Step { slot, back: 1 }
 }
 
-fn pattern(head: usize, positives: &[Step], negatives: &[Step]) -> Option<Pattern> {
-    Some(Pattern {
+fn pattern(head: usize, positives: &[Step], negatives: &[Step]) -> Result<Pattern, TooLong> {
+    Ok(Pattern {
         head,
         positives: Body::of(positives)?,
         negatives: Body::of(negatives)?,
@@ -127,8 +119,8 @@ fn pattern(head: usize, positives: &[Step], negatives: &[Step]) -> Option<Patter
 }
 
 // The same situation every tick: the grant leans on no closure one tick back.
-fn patterns() -> Option<[Pattern; 5]> {
-    Some([
+fn patterns() -> Result<[Pattern; 5], TooLong> {
+    Ok([
         pattern(2, &[now(1)], &[])?,
         pattern(3, &[now(0)], &[before(2)])?,
         pattern(4, &[now(0), now(2)], &[])?,
@@ -143,11 +135,13 @@ fn repeating<'a>(
     slots: &'a [Slot],
     patterns: &'a [Pattern],
 ) -> anyhow::Result<()> {
-    let mut book = Repeating::empty();
-    if let Err(fault) = book.make(slots, 2, patterns) {
-        println!(rt; "{}", fault.refusal())?;
-        return Ok(());
-    }
+    let book = match Repeating::make(slots, 2, patterns) {
+        Ok(book) => book,
+        Err(fault) => {
+            println!(rt; "{}", fault.refusal())?;
+            return Ok(());
+        }
+    };
     println!(rt; "the same situation every tick, over 2 ticks")?;
     show(rt, &book, &NAMES)?;
     let mut struck = Struck::over(book);
@@ -172,10 +166,8 @@ fn run(rt: &HostRuntime) -> anyhow::Result<()> {
         slot(false, 2),
         slot(false, 2),
     ];
-    match patterns() {
-        Some(patterns) => repeating(rt, &slots, &patterns),
-        None => Err(anyhow!("a list has more than six steps")),
-    }
+    let patterns = patterns().map_err(|_| anyhow!("a list has more than six steps"))?;
+    repeating(rt, &slots, &patterns)
 }
 
 fn main(rt: HostRuntime) -> anyhow::Result<()> {

@@ -10,15 +10,13 @@ use Rattle.stamps.specs.declared.route.Route.{Route}
 use Rattle.text.specs.Bytes.{and_then, pass_at}
 use Rattle.text.specs.Lists.{open_at, onward_at, empty_if}
 use Rattle.text.specs.Numbers.{number_at}
-use Rattle.text.specs.Stamps.{one_aisle, aisles_at, route_at}
+use Rattle.text.specs.Stamps.{Aisles, one_aisle, aisles_at, route_at}
 use Rattle.text.specs.Turns.{turns, tries}
 use Rattle.text.specs.Words.{is_byte}
-use Rattle.text.specs.declared.aisles.Aisles.{Aisles}
 use Rattle.grammar.specs.Pieces.{Care}
 use Rattle.grammar.specs.Stamps.{RouteSpelt, RisingFrom, with_aisles}
 use Rattle.grammar.specs.Agreement.{Agrees}
 use Rattle.grammar.proofs.Agreeing.{Any, Via, then_then, agrees_same, agrees_as, agrees_then, agrees_done}
-
 use Rattle.grammar.proofs.Following.{ended, unended}
 use Rattle.grammar.proofs.Keeping.{kept_map, kept_both, list_under, as_it_is, list_within}
 use Rattle.grammar.proofs.Lists.{run, adds, Passes, Bracketed, listed, list_agrees}

@@ -11,7 +11,7 @@ use Rattle.text.specs.Forms.{Line, atom_line, rule_line, end_line, closing, next
 use Rattle.text.specs.declared.kind.Kind.{Kind}
 use Rattle.text.specs.declared.kind.Kind.TheVariants as kind
 use Rattle.text.specs.declared.reader.Stage.TheVariants.{Start, Atoms, Rules}
-use Rattle.text.specs.declared.reader.Room.{Room}
+use Rattle.text.specs.declared.counts.Counts.{Counts}
 
 -- a text begins with a word if its first byte is the word's, and what follows begins with the rest
 begins_step : (b : ℕ) (word text : List ℕ) (at : ℕ) → begins (b ∷ word) (drop at text) ≡ (is_byte b (slice_get text at) && begins word (drop (at + 1) text))
@@ -248,7 +248,7 @@ module _ (S : Type 0) where
   abbrev pub end_rest : List ℕ → ℕ → Result (Line S × ℕ) Fault
   end_rest text m = and_then (pass_word end_word text m) (λ a. and_then (pass_at 10 text a) (λ next. Ok (end_line, next)))
 
-  module _ (room : Room) (atoms rules : ℕ) where
+  module _ (room : Counts) (atoms rules : ℕ) where
     -- a rule from its number on, in a form that stands at `at`
     abbrev pub rule_rest : ℕ → List ℕ → ℕ → Result (Line S × ℕ) Fault
     rule_rest at text a =
@@ -277,7 +277,7 @@ module _ (S : Type 0) where
         (λ s. and_then (pass_word closing text s.1)
         (λ next. Ok (atom_line (record { stamp = s.0; reading = k.0 }), next)))))))
 
-module _ {S : Type 0} (stamp_at : List ℕ → ℕ → Result (S × ℕ) Fault) (word : List ℕ) (room : Room) (atoms rules : ℕ) where
+module _ {S : Type 0} (stamp_at : List ℕ → ℕ → Result (S × ℕ) Fault) (word : List ℕ) (room : Counts) (atoms rules : ℕ) where
   -- the forms after their bracket, which stands at `at`
   abbrev pub after_atom : ℕ → List ℕ → ℕ → Result (Line S × ℕ) Fault
   after_atom at text m = and_then (pass_word atom_word text m) (atom_rest S room atoms rules stamp_at at text)

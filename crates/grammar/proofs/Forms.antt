@@ -11,7 +11,7 @@ use Rattle.text.specs.Numbers.{digit_of}
 use Rattle.text.specs.Rules.{rule_at}
 use Rattle.text.specs.Spelt.{kind_text}
 use Rattle.text.specs.Words.{pass_word}
-use Rattle.text.specs.declared.reader.Room.{Room}
+use Rattle.text.specs.declared.counts.Counts.{Counts}
 use Rattle.grammar.specs.Pieces.{Care, Kept, Exactly, Followed}
 use Rattle.grammar.specs.Grammar.{Numbered}
 use Rattle.grammar.specs.Agreement.{Agrees, NoDigit}
@@ -26,7 +26,7 @@ use Rattle.grammar.proofs.Keeping.{kept_map}
 pub starts : (b : ℕ) (word : List ℕ) (A : List ℕ → Type 0) (piece rest : List ℕ) → digit_of (Some b) ≡ None → Followed (Exactly (b ∷ word)) A piece → NoDigit (piece ++ rest)
 starts b word A piece rest e f = ap digit_of (first_of _ _ _ piece rest f) ∙ e
 
-module _ (S : Type 0) (room : Room) (atoms rules : ℕ) where
+module _ (S : Type 0) (room : Counts) (atoms rules : ℕ) where
   -- the end of a form that says this
   abbrev Closed : Line S → Care → Line S → List ℕ → Type 0
   Closed line c y = Followed (Exactly closing) (λ p. (y ≡ line) × (p ≡ []))

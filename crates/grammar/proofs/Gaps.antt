@@ -5,10 +5,10 @@ use Rattle.std.proofs.lemmas.List.{length-append}
 use Rattle.std.proofs.lemmas.Option.{slice_get_past}
 use Rattle.std.proofs.lemmas.Bool.{cases_lt, or_from, cond-true, cond-false, le-ltb}
 use Rattle.std.specs.List.{slice_get, AllByRecursion}
-use Rattle.std.specs.Option.{option_map, option_flatten}
+use Rattle.std.specs.Option.{option_map, option_and_then, option_flatten}
 use Rattle.books.proofs.First.{first_none, first_all, within}
 use Rattle.books.specs.Check.{first_below}
-use Rattle.books.specs.Meaning.{Rule, Atom, Meaning, bind_some, rule_at, stamp_of, literals}
+use Rattle.books.specs.Meaning.{Rule, Atom, Meaning, rule_at, stamp_of, literals}
 use Rattle.books.specs.declared.fault.CheckFault.{CheckFault}
 use Rattle.books.specs.declared.fault.CheckFault.TheVariants.{BodyTooLong, HeadMissing, LiteralMissing}
 use Rattle.text.specs.Spelt.{count_or}
@@ -70,13 +70,13 @@ module _ {S : Type 0} (m : Meaning S) where
             absurd (omega arith)
       ]
 
-  literals_below : (fault : ℕ → CheckFault) (ns : List ℕ) → ((i : ℕ) → i < length ns → bind_some (missing m (fault i)) (slice_get ns i) ≡ None) → AllByRecursion (λ n. n < count) ns
+  literals_below : (fault : ℕ → CheckFault) (ns : List ℕ) → ((i : ℕ) → i < length ns → option_and_then (missing m (fault i)) (slice_get ns i) ≡ None) → AllByRecursion (λ n. n < count) ns
   literals_below fault [] h = tt
   literals_below fault (n ∷ ns) h =
       let here = passes (is_some (stamp_of m n)) (fault 0) None (h 0 (omega arith)) in
       (below_count n here.0, literals_below (λ i. fault (suc i)) ns (λ i l. h (suc i) (omega arith)))
 
-  literal_there : (fault : CheckFault) (ns : List ℕ) (i : ℕ) → AllByRecursion (λ n. n < count) ns → bind_some (missing m fault) (slice_get ns i) ≡ None
+  literal_there : (fault : CheckFault) (ns : List ℕ) (i : ℕ) → AllByRecursion (λ n. n < count) ns → option_and_then (missing m fault) (slice_get ns i) ≡ None
   literal_there fault [] i h = refl
   literal_there fault (n ∷ ns) zero h = cond-true (is_some (stamp_of m n)) None (Some fault) (is_there m.atoms n h.0)
   literal_there fault (n ∷ ns) (suc i) h = literal_there fault ns i h.1
@@ -84,7 +84,7 @@ module _ {S : Type 0} (m : Meaning S) where
   -- the fault of a rule that has number k
   abbrev gap_in : ℕ → Option Rule → Option CheckFault
   gap_in k o =
-      bind_some
+      option_and_then
       (λ r. cond (ltb 6 (length r.positives) || ltb 6 (length r.negatives))
       (Some (BodyTooLong k))
       (cond (is_some (stamp_of m r.head))
@@ -96,7 +96,7 @@ module _ {S : Type 0} (m : Meaning S) where
   literals_declared k r is e =
       literals_below (λ i. LiteralMissing k (i + 1)) (literals r)
       (λ i l.
-      ap (λ o. bind_some (missing m (LiteralMissing k (i + 1))) (bind_some (λ (s : Rule). slice_get (literals s) i) o)) (sym is)
+      ap (λ o. option_and_then (missing m (LiteralMissing k (i + 1))) (option_and_then (λ (s : Rule). slice_get (literals s) i) o)) (sym is)
       ∙ first_none (literal_gap m k) (length r.positives + length r.negatives) e i (omega (arith, length-append r.positives r.negatives)))
 
   short : book_gap m ≡ None → (k : ℕ) (r : Rule) → rule_at m k ≡ Some r → (length r.positives ≤ 6) × (length r.negatives ≤ 6)
@@ -126,7 +126,7 @@ module _ {S : Type 0} (m : Meaning S) where
 
   literals_gapless : (k : ℕ) (r : Rule) → rule_at m k ≡ Some r → GaplessRule count r → (i : ℕ) → literal_gap m k i ≡ None
   literals_gapless k r is s i =
-      ap (λ o. bind_some (missing m (LiteralMissing k (i + 1))) (bind_some (λ (t : Rule). slice_get (literals t) i) o)) is
+      ap (λ o. option_and_then (missing m (LiteralMissing k (i + 1))) (option_and_then (λ (t : Rule). slice_get (literals t) i) o)) is
       ∙ literal_there (LiteralMissing k (i + 1)) (literals r) i (All-append (λ n. n < count) r.positives r.negatives s.positives s.negatives)
 
   gap_none : (k : ℕ) (o : Option Rule) → rule_at m k ≡ o → GaplessRow count o → gap_in k o ≡ None

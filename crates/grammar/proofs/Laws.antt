@@ -6,7 +6,7 @@ use Rattle.books.specs.declared.fault.Fault.{Fault}
 use Rattle.text.specs.Bytes.{and_then}
 use Rattle.text.specs.Forms.{form_at}
 use Rattle.text.specs.Reads.{room_of}
-use Rattle.text.specs.declared.reader.Room.{Room}
+use Rattle.text.specs.declared.counts.Counts.{Counts}
 use Rattle.text.specs.declared.reader.Stage.{Stage}
 use Rattle.writing.specs.Replies.{checked_text, canonical_at}
 use Rattle.writing.specs.Writes.{book_gap, write_answer}
@@ -58,7 +58,7 @@ lawful_routes =
     }
 
 module _ {S : Type 0} (n : Notation S) (l : Lawful n) where
-  forms : (room : Room) (stage : Stage) → Going stage → (atoms rules : ℕ) → Agrees (λ text at. form_at n.stamp_at n.word text room (record { stage = stage; next = at; atoms = atoms; rules = rules })) (FormAt n.word n.spells room stage atoms rules) Any
+  forms : (room : Counts) (stage : Stage) → Going stage → (atoms rules : ℕ) → Agrees (λ text at. form_at n.stamp_at n.word text room (record { stage = stage; next = at; atoms = atoms; rules = rules })) (FormAt n.word n.spells room stage atoms rules) Any
   forms room stage g atoms rules = forms_agree n.stamp_at n.word n.spells room l.agrees atoms rules stage g
 
   pub reading_is_the_grammar_lem : ReadingIsTheGrammar n

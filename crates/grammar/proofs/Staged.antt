@@ -8,7 +8,7 @@ use Rattle.text.specs.Forms.{Line, order_line, atom_line, rule_line, end_line, c
 use Rattle.text.specs.Kinds.{order_opening, atom_opening, rule_opening, void_opening}
 use Rattle.text.specs.Spelt.{space, end_text, kind_text}
 use Rattle.text.specs.Words.{pass_word, is_byte}
-use Rattle.text.specs.declared.reader.Room.{Room}
+use Rattle.text.specs.declared.counts.Counts.{Counts}
 use Rattle.text.specs.declared.reader.Stage.{Stage}
 use Rattle.text.specs.declared.reader.Stage.TheVariants.{Start, Atoms, Rules, End}
 use Rattle.grammar.specs.Pieces.{Care, Exactly, Followed}
@@ -50,7 +50,7 @@ parts_shut c atoms r text h =
     regroup (Body c atoms r.positives) (Followed (Exactly space) (Body c atoms r.negatives)) (Exactly closing) v
     (under _ _ _ v (λ w k. regroup (Exactly space) (Body c atoms r.negatives) (Exactly closing) w k) j)) i)) g)) h)
 
-module _ {S : Type 0} (stamp_at : List ℕ → ℕ → Result (S × ℕ) Fault) (word : List ℕ) (spells : Care → S → List ℕ → Type 0) (room : Room) (stamps : Agrees stamp_at spells NoDigit) (atoms rules : ℕ) where
+module _ {S : Type 0} (stamp_at : List ℕ → ℕ → Result (S × ℕ) Fault) (word : List ℕ) (spells : Care → S → List ℕ → Type 0) (room : Counts) (stamps : Agrees stamp_at spells NoDigit) (atoms rules : ℕ) where
   abbrev RuleAfter : Care → Line S → List ℕ → Type 0
   RuleAfter c y = Followed (Exactly rule_word) (RuleRest S room atoms rules c y)
 

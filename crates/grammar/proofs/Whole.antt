@@ -9,7 +9,7 @@ use Rattle.books.specs.declared.fault.Fault.TheVariants.{Reading}
 use Rattle.text.specs.Bytes.{and_then}
 use Rattle.text.specs.Forms.{form_at}
 use Rattle.text.specs.Reads.{book_at}
-use Rattle.text.specs.declared.reader.Room.{Room}
+use Rattle.text.specs.declared.counts.Counts.{Counts}
 use Rattle.text.specs.declared.reader.Stage.{Stage}
 use Rattle.text.specs.declared.reader.Stage.TheVariants.{Start}
 use Rattle.grammar.specs.Pieces.{Care, shape, kept, Kept}
@@ -115,7 +115,7 @@ module _ {S : Type 0} where
 front_take : (text : List ℕ) (k : ℕ) (piece : List ℕ) → Between text 0 k piece → piece ≡ take k text
 front_take text k piece b = sym (ap (take k) b.stands ∙ take_at piece (drop k text) k (omega (arith, b.place)))
 
-module _ {S : Type 0} (stamp_at : List ℕ → ℕ → Result (S × ℕ) Fault) (word : List ℕ) (spells : Care → S → List ℕ → Type 0) (room : Room)
+module _ {S : Type 0} (stamp_at : List ℕ → ℕ → Result (S × ℕ) Fault) (word : List ℕ) (spells : Care → S → List ℕ → Type 0) (room : Counts)
     (forms : (stage : Stage) → Going stage → (atoms rules : ℕ) → Agrees (λ text at. form_at stamp_at word text room (record { stage = stage; next = at; atoms = atoms; rules = rules })) (FormAt word spells room stage atoms rules) (λ _. Unit {0})) where
   -- the forms of a book, n at most
   abbrev Forms : ℕ → Care → Meaning S → List ℕ → Type 0

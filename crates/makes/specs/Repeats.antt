@@ -1,13 +1,17 @@
 -- A book that repeats its slots and its pattern rules every tick.
-use Rattle.std.specs.Prelude.{ℕ, zero, suc, ◌+◌, ◌-◌, ◌*◌, Bool, true, false, cond, ◌&&◌, ◌||◌, List, [], ◌∷◌, ◌++◌, map, length, Some, None, Option, nat_le, nat_lt}
-use Rattle.std.specs.List.{slice_get}
+use Rattle.std.specs.Prelude.{ℕ, zero, suc, ◌+◌, ◌-◌, ◌*◌, Bool, cond, ◌&&◌, ◌||◌, List, [], ◌++◌, map, length, Some, Option, nat_le, nat_lt}
+use Rattle.std.specs.List.{slice_get, list_all}
+use Rattle.std.specs.Option.{option_map, option_and_then}
 use Rattle.std.specs.Bool.{then_some}
 use Rattle.stamps.specs.declared.then.Then.{Then}
 use Rattle.stamps.specs.declared.tick.Tick.{Tick}
-use Rattle.books.specs.Meaning.{Rule, Atom, Meaning, bind_some}
+use Rattle.books.specs.Meaning.{Rule, Atom, Meaning}
 use Rattle.books.specs.Check.{first_below}
-use Rattle.books.specs.declared.fault.CheckFault.{CheckFault}
-use Rattle.books.specs.declared.fault.CheckFault.TheVariants.{TooLarge, SlotMissing}
+use Rattle.books.specs.declared.fault.CheckFault.TheVariants.{TooLarge}
+use Rattle.books.specs.declared.fault.MakeFault.{MakeFault}
+use Rattle.books.specs.declared.fault.MakeFault.TheVariants.{SlotMissing}
+use Rattle.books.specs.declared.fault.Fault.{Fault}
+use Rattle.books.specs.declared.fault.Fault.TheVariants.{Checking, Making}
 use Rattle.makes.specs.Bodies.{body_items}
 use Rattle.makes.specs.Flats.{rule_by}
 use Rattle.makes.specs.declared.patterns.Slot.{Slot}
@@ -25,8 +29,7 @@ slot_atom t s = record { stamp = record { first = record { 0 = t }; second = rec
 
 -- none of the steps from tick t falls before tick 0
 abbrev pub started_by : ℕ → List Step → Bool
-started_by t [] = true
-started_by t (s ∷ rest) = nat_le s.back t && started_by t rest
+started_by t = list_all (λ s. nat_le s.back t)
 
 -- the atom of a step from tick t, with so many slots
 abbrev pub atom_back : ℕ → ℕ → Step → ℕ
@@ -46,27 +49,21 @@ abbrev pub steps : Pattern → List Step
 steps p = body_items p.positives ++ body_items p.negatives
 
 -- a step is at fault if its slot is not there or it goes more than 3 ticks back
-abbrev pub step_fault : ℕ → ℕ → ℕ → Step → Option CheckFault
+abbrev pub step_fault : ℕ → ℕ → ℕ → Step → Option MakeFault
 step_fault width k i s = then_some (nat_le width s.slot || nat_lt 3 s.back) (SlotMissing k (i + 1))
 
 -- the first fault of pattern k: its head, then its steps
-abbrev pub pattern_fault : ℕ → ℕ → Pattern → Option CheckFault
+abbrev pub pattern_fault : ℕ → ℕ → Pattern → Option MakeFault
 pattern_fault width k p =
     cond (nat_le width p.head) (Some (SlotMissing k 0))
-    (first_below (length (body_items p.positives) + length (body_items p.negatives)) (λ i. bind_some (step_fault width k i) (slice_get (steps p) i)))
+    (first_below (length (body_items p.positives) + length (body_items p.negatives)) (λ i. option_and_then (step_fault width k i) (slice_get (steps p) i)))
+
+-- the first fault of the patterns in order
+abbrev pub patterns_fault : ℕ → List Pattern → Option MakeFault
+patterns_fault width patterns = first_below (length patterns) (λ k. option_and_then (pattern_fault width k) (slice_get patterns k))
 
 -- why a repeating book is not made: too many atoms or rule numbers, then the first pattern that is at fault
-abbrev pub making_fault : List Slot → ℕ → List Pattern → Option CheckFault
+abbrev pub making_fault : List Slot → ℕ → List Pattern → Option Fault
 making_fault slots ticks patterns =
-    cond (nat_lt 1024 (length slots * ticks) || nat_lt 1024 (length patterns * ticks)) (Some TooLarge)
-    (first_below (length patterns) (λ k. bind_some (pattern_fault (length slots) k) (slice_get patterns k)))
-
--- what a book has after a making: what was asked for, or what it had before where that is refused
-abbrev pub made_of : {X : Type 0} → Option CheckFault → X → X → X
-made_of None asked before = asked
-made_of (Some f) asked before = before
-
--- there is none
-abbrev pub is_none : {X : Type 0} → Option X → Bool
-is_none None = true
-is_none (Some x) = false
+    cond (nat_lt 1024 (length slots * ticks) || nat_lt 1024 (length patterns * ticks)) (Some (Checking TooLarge))
+    (option_map Making (patterns_fault (length slots) patterns))

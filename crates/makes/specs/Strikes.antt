@@ -2,8 +2,8 @@
 use Rattle.std.specs.Prelude.{◌≡◌, ℕ, suc, Bool, cond, ◌||◌, List, [], ◌∷◌, length, Some, None, Option, nat_le}
 use Rattle.books.specs.Meaning.{Rule, Meaning, rule_at}
 use Rattle.books.specs.Judged.{Sound}
-use Rattle.books.specs.declared.fault.CheckFault.{CheckFault}
-use Rattle.books.specs.declared.fault.CheckFault.TheVariants.{RuleMissing}
+use Rattle.books.specs.declared.fault.MakeFault.{MakeFault}
+use Rattle.books.specs.declared.fault.MakeFault.TheVariants.{RuleMissing}
 use Rattle.words.specs.Members.{with_number}
 use Rattle.stamps.specs.Orders.{Tests}
 
@@ -17,11 +17,11 @@ abbrev pub struck_meaning : {S : Type 0} → (ℕ → Bool) → Meaning S → Me
 struck_meaning struck m = record { atoms = m.atoms; rules = strike_from struck 0 m.rules }
 
 -- striking is refused for a number above 1,023 and for one that the book below lacks
-abbrev pub strike_fault : {S : Type 0} → Meaning S → ℕ → Option CheckFault
+abbrev pub strike_fault : {S : Type 0} → Meaning S → ℕ → Option MakeFault
 strike_fault m rule = cond (nat_le 1024 rule || nat_le (length m.rules) rule) (Some (RuleMissing rule)) None
 
 -- the set after striking: with the number, or as it was where that is refused
-abbrev pub struck_set : Option CheckFault → List ℕ → ℕ → List ℕ
+abbrev pub struck_set : Option MakeFault → List ℕ → ℕ → List ℕ
 struck_set None words rule = with_number words rule
 struck_set (Some f) words rule = words
 

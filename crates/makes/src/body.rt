@@ -3,7 +3,12 @@ ghost use Rattle.std.specs.Prelude.{◌≡◌, ◌≤◌, length};
 
 use std::alloc::AllocError;
 
+mod filled;
 mod listed;
+
+// The list is longer than six.
+#[derive(Clone, Copy, PartialEq, Eq, Debug)]
+pub struct TooLong;
 
 // The first `len` of the array.
 #[derive(Debug)]
@@ -14,6 +19,7 @@ pub struct Body<T = usize> {
     ghost within: { len ≤ length items },
 }
 
+// By hand: no derive makes a copy of a struct with ghost fields.
 impl<T: Copy> Clone for Body<T> {
     ghost is_clone = { λ x y. y ≡ x };
 

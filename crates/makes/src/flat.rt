@@ -1,11 +1,11 @@
 // The flat book: atoms and rules in tables that the caller hands in.
-ghost use Rattle.std.specs.Prelude.{◌≡◌, map};
-ghost use Rattle.std.specs.List.{slice_get};
-ghost use Rattle.std.specs.Option.{option_flatten, option_map};
-ghost use Rattle.makes.specs.Flats.{atom_of, rule_of, flat_meaning};
+ghost use Rattle.std.specs.Prelude.{◌≡◌};
+ghost use Rattle.std.specs.Option.{option_map};
+ghost use Rattle.books.specs.Meaning.{rule_at};
+ghost use Rattle.makes.specs.Flats.{rule_of, flat_meaning};
 
 use crate::rows::{AtomRow, RuleRow};
-use books::book::Book;
+use books::book::{Book, Sign};
 use stamps::order::Order;
 
 // Row k of a table is atom or rule number k; a rule number whose row is None is vacant.
@@ -15,24 +15,13 @@ pub struct Flat<'a, S> {
     pub rules: &'a [Option<RuleRow>],
 }
 
-// Row `i` of a table; none beyond its end.
-fn row_at<T: Copy>(rows: &[T], i: usize) -> Option<T>
-    ensures { result ≡ slice_get rows.now i }
-{
-    if i < rows.len() { Some(rows[i]) } else { None }
-}
-
-fn atom_row<S: Copy>(atoms: &[AtomRow<S>], atom: usize) -> Option<AtomRow<S>>
-    ensures { option_map atom_of result ≡ slice_get (map atom_of atoms.now) atom }
-{
-    row_at(atoms, atom)
-}
-
-// The row of a rule that is there and not vacant.
-fn rule_row(rules: &[Option<RuleRow>], rule: usize) -> Option<RuleRow>
-    ensures { option_map rule_of result ≡ option_flatten (slice_get (map (option_map rule_of) rules.now) rule) }
-{
-    row_at(rules, rule).flatten()
+impl<S> Flat<'_, S> {
+    // The row of a rule; none beyond the table and where it is vacant.
+    fn rule(&self, rule: usize) -> Option<RuleRow>
+        ensures { option_map rule_of result ≡ rule_at (flat_meaning self.now.atoms.now self.now.rules.now) rule }
+    {
+        self.rules.get(rule).copied().flatten()
+    }
 }
 
 impl<S: Order> Book for Flat<'_, S> {
@@ -49,37 +38,22 @@ impl<S: Order> Book for Flat<'_, S> {
     }
 
     fn stamp(&self, atom: usize) -> Option<S> {
-        let row = atom_row(self.atoms, atom)?;
-        Some(row.stamp)
+        self.atoms.get(atom).map(|row| row.stamp)
     }
 
     fn reading(&self, atom: usize) -> Option<bool> {
-        let row = atom_row(self.atoms, atom)?;
-        Some(row.reading)
+        self.atoms.get(atom).map(|row| row.reading)
     }
 
     fn head(&self, rule: usize) -> Option<usize> {
-        let row = rule_row(self.rules, rule)?;
-        Some(row.head)
+        Some(self.rule(rule)?.head)
     }
 
-    fn positive_count(&self, rule: usize) -> Option<usize> {
-        let row = rule_row(self.rules, rule)?;
-        Some(row.positives.count())
+    fn body_count(&self, rule: usize, sign: Sign) -> Option<usize> {
+        Some(self.rule(rule)?.body(sign).count())
     }
 
-    fn negative_count(&self, rule: usize) -> Option<usize> {
-        let row = rule_row(self.rules, rule)?;
-        Some(row.negatives.count())
-    }
-
-    fn positive(&self, rule: usize, i: usize) -> Option<usize> {
-        let row = rule_row(self.rules, rule)?;
-        row.positives.get(i)
-    }
-
-    fn negative(&self, rule: usize, i: usize) -> Option<usize> {
-        let row = rule_row(self.rules, rule)?;
-        row.negatives.get(i)
+    fn body_atom(&self, rule: usize, sign: Sign, i: usize) -> Option<usize> {
+        self.rule(rule)?.body(sign).get(i)
     }
 }

@@ -1,5 +1,5 @@
 // What a pattern is at one tick.
-ghost use Rattle.std.specs.Prelude.{◌≡◌, ◌+◌, ◌*◌, ◌<◌, ◌≤◌, true, map, length, Some};
+ghost use Rattle.std.specs.Prelude.{◌≡◌, ◌+◌, ◌*◌, ◌<◌, ◌≤◌, true, map, length};
 ghost use Rattle.std.specs.List.{AllByRecursion};
 ghost use Rattle.std.specs.Option.{option_map};
 ghost use Rattle.makes.specs.Bodies.{body_items};
@@ -14,27 +14,23 @@ use crate::rows::RuleRow;
 fn all_started(steps: &[Step], tick: usize) -> bool
     ensures { result ≡ started_by tick steps.now }
 {
-    for step in steps {
-        if step.back > tick {
-            return false;
-        }
-    }
-    true
+    steps.iter().all(|step| step.back <= tick)
 }
 
 // The atoms of the steps from a tick.
-fn atoms_back(steps: &[Step], tick: usize, width: usize) -> Option<Body>
+fn atoms_back(steps: &[Step], tick: usize, width: usize) -> Body
     requires few { length steps.now ≤ 6 }
     requires within { (tick + 1) * width ≤ 1024 }
     requires there { AllByRecursion (λ s. s.slot < width) steps.now }
     requires started { started_by tick steps.now ≡ true }
-    ensures { option_map body_items result ≡ Some (map (atom_back width tick) steps.now) }
+    ensures { body_items result ≡ map (atom_back width tick) steps.now }
 {
+    // A loop, since it writes an array: a `collect` would allocate.
     let mut atoms = [0; 6];
     for (i, step) in steps.iter().enumerate() {
         atoms[i] = (tick - step.back) * width + step.slot;
     }
-    Body::of(&atoms[0..steps.len()])
+    Body::with(&atoms[..steps.len()])
 }
 
 // The pattern as a rule of that tick; none where it is vacant there.
@@ -52,7 +48,7 @@ pub fn instance(pattern: &Pattern, tick: usize, width: usize) -> Option<RuleRow>
     }
     Some(RuleRow {
         head: tick * width + pattern.head,
-        positives: atoms_back(positives, tick, width)?,
-        negatives: atoms_back(negatives, tick, width)?,
+        positives: atoms_back(positives, tick, width),
+        negatives: atoms_back(negatives, tick, width),
     })
 }

@@ -1,6 +1,6 @@
 // The repeating book: slots and pattern rules that come again every tick.
-ghost use Rattle.std.specs.Prelude.{T};
-ghost use Rattle.makes.specs.Repeats.{is_none, making_fault};
+ghost use Rattle.std.specs.Prelude.{◌≡◌, None};
+ghost use Rattle.makes.specs.Repeats.{making_fault};
 
 use crate::patterns::{Pattern, Slot};
 
@@ -14,5 +14,5 @@ pub struct Repeating<'a> {
     slots: &'a [Slot],
     ticks: usize,
     patterns: &'a [Pattern],
-    ghost made: { T (is_none (making_fault slots.now ticks patterns.now)) },
+    ghost made: { making_fault slots.now ticks patterns.now ≡ None },
 }

@@ -1,10 +1,11 @@
 // The rows of a flat book's tables.
-ghost use Rattle.std.specs.Prelude.{◌≡◌, ◌&&◌, length, nat_le};
-ghost use Rattle.std.specs.Option.{option_map};
-ghost use Rattle.std.specs.Bool.{then_some};
+ghost use Rattle.std.specs.Prelude.{◌≡◌, ◌≤◌, ◌↔◌, length, IsOk, IfOk};
+ghost use Rattle.books.specs.Meaning.{of_sign};
+ghost use Rattle.makes.specs.Bodies.{body_items};
 ghost use Rattle.makes.specs.Flats.{rule_of, rule_by};
 
-use crate::body::Body;
+use crate::body::{Body, TooLong};
+use books::book::Sign;
 
 #[derive(Clone, Copy, Debug)]
 pub struct AtomRow<S> {
@@ -20,14 +21,25 @@ pub struct RuleRow {
 }
 
 impl RuleRow {
-    // A rule of these atoms; none where a list has more than six.
-    pub fn of(head: usize, positives: &[usize], negatives: &[usize]) -> Option<RuleRow>
-        ensures { option_map rule_of result ≡ then_some (nat_le (length positives.now) 6 && nat_le (length negatives.now) 6) (rule_by head positives.now negatives.now) }
+    // A rule of these atoms, if neither list has more than six.
+    pub fn of(head: usize, positives: &[usize], negatives: &[usize]) -> Result<RuleRow, TooLong>
+        ensures fits { IsOk result ↔ (length positives.now ≤ 6) × (length negatives.now ≤ 6) }
+        ensures rule { IfOk result (λ row. rule_of row ≡ rule_by head positives.now negatives.now) }
     {
-        Some(RuleRow {
+        Ok(RuleRow {
             head,
             positives: Body::of(positives)?,
             negatives: Body::of(negatives)?,
         })
+    }
+
+    // The list of that sign.
+    pub fn body(&self, sign: Sign) -> &Body
+        ensures { body_items result.now ≡ of_sign sign (rule_of self.now) }
+    {
+        match sign {
+            Sign::Positive => &self.positives,
+            Sign::Negative => &self.negatives,
+        }
     }
 }

@@ -1,11 +1,13 @@
 // The struck book: any book, with some rule numbers made vacant.
 ghost use Rattle.std.specs.Prelude.{◌≡◌, true, replicate, Ok, nat_eq};
-ghost use Rattle.books.specs.Check.{unless};
+ghost use Rattle.std.specs.Option.{option_map};
+ghost use Rattle.books.specs.Check.{refused_by};
+ghost use Rattle.books.specs.declared.fault.Fault.TheVariants.{Making};
 ghost use Rattle.makes.specs.Strikes.{StandsOver, strike_fault, struck_meaning, struck_set};
 ghost use Rattle.words.specs.Members.{has_number};
 
-use books::book::Book;
-use books::fault::{CheckFault, Fault};
+use books::book::{Book, Sign};
+use books::fault::{Fault, MakeFault};
 use stamps::order::Order;
 use words::numbers::{add, has};
 
@@ -40,20 +42,21 @@ impl<B: Book> Struck<B> {
 
     // Makes a rule number vacant.
     pub fn strike(&mut self, rule: usize) -> Result<(), Fault>
-        ensures answer { result ≡ unless (strike_fault (B.Book.meaning self.old.below) rule) }
+        ensures answer { result ≡ refused_by (option_map Making (strike_fault (B.Book.meaning self.old.below) rule)) }
         ensures below { self.new.below ≡ self.old.below }
         ensures words { self.new.words ≡ struck_set (strike_fault (B.Book.meaning self.old.below) rule) self.old.words rule }
         ensures stands { result ≡ Ok tt → StandsOver B.Stamp.Order.tests (λ k. nat_eq k rule) (struck_meaning (has_number self.old.words) (B.Book.meaning self.old.below)) (struck_meaning (has_number self.new.words) (B.Book.meaning self.new.below)) }
         ensures again { has_number self.old.words rule ≡ true → struck_meaning (has_number self.new.words) (B.Book.meaning self.new.below) ≡ struck_meaning (has_number self.old.words) (B.Book.meaning self.old.below) }
     {
         if rule >= MAX_STRUCK || rule >= self.below.rule_count() {
-            return Err(Fault::Checking(CheckFault::RuleMissing { rule }));
+            return Err(MakeFault::RuleMissing { rule }.into());
         }
         add(&mut self.words, rule);
         Ok(())
     }
 }
 
+#[tactic(auto, using(crate::proofs::Striking::struck_rule, crate::proofs::Striking::struck_length))]
 impl<B: Book> Book for Struck<B> {
     type Stamp = B::Stamp;
 
@@ -76,42 +79,18 @@ impl<B: Book> Book for Struck<B> {
     }
 
     fn head(&self, rule: usize) -> Option<usize> {
-        if has(&self.words, rule) {
-            None
-        } else {
-            self.below.head(rule)
-        }
+        self.below.head(rule).filter(|_| !has(&self.words, rule))
     }
 
-    fn positive_count(&self, rule: usize) -> Option<usize> {
-        if has(&self.words, rule) {
-            None
-        } else {
-            self.below.positive_count(rule)
-        }
+    fn body_count(&self, rule: usize, sign: Sign) -> Option<usize> {
+        self.below
+            .body_count(rule, sign)
+            .filter(|_| !has(&self.words, rule))
     }
 
-    fn negative_count(&self, rule: usize) -> Option<usize> {
-        if has(&self.words, rule) {
-            None
-        } else {
-            self.below.negative_count(rule)
-        }
-    }
-
-    fn positive(&self, rule: usize, i: usize) -> Option<usize> {
-        if has(&self.words, rule) {
-            None
-        } else {
-            self.below.positive(rule, i)
-        }
-    }
-
-    fn negative(&self, rule: usize, i: usize) -> Option<usize> {
-        if has(&self.words, rule) {
-            None
-        } else {
-            self.below.negative(rule, i)
-        }
+    fn body_atom(&self, rule: usize, sign: Sign, i: usize) -> Option<usize> {
+        self.below
+            .body_atom(rule, sign, i)
+            .filter(|_| !has(&self.words, rule))
     }
 }

@@ -1,5 +1,5 @@
 -- What holds of every or some atom of a list, and of some number below another.
-use Rattle.std.proofs.Common.{◌≡◌, ℕ, zero, suc, ◌<◌, ◌≤◌, ◌+◌, List, [], ◌∷◌, subst, ⊎_elim, not-suc-le-zero, arith, refl}
+use Rattle.std.proofs.Common.{◌≡◌, ℕ, zero, suc, ◌<◌, ◌≤◌, ◌+◌, List, [], ◌∷◌, subst, ⊎_elim, arith, refl}
 use Rattle.std.specs.List.{AllByRecursion, range_with_len, list_all, list_any}
 use Rattle.std.proofs.lemmas.Bool.{cases_eq}
 use Rattle.models.specs.Sets.{Set, some_below}

@@ -2,7 +2,7 @@
 use Rattle.std.proofs.Common.{◌≡◌, ℕ, zero, suc, ◌<◌, ◌≤◌, not, length, Some, subst, ⊎_elim, not-suc-le-zero, arith, refl}
 use Rattle.books.specs.Meaning.{Rule, Meaning, rule_at}
 use Rattle.books.specs.Judged.{Sound, relates}
-use Rattle.models.specs.Sets.{Set, Empty, some_below}
+use Rattle.models.specs.Sets.{some_below}
 use Rattle.models.specs.Verdicts.{in_book, holds, ready, due, pending, blocked, safe, ruled_out}
 use Rattle.models.specs.Moves.{sweep, after, after_all, may_all, sweeps, NothingOpen, NothingDue}
 use Rattle.models.specs.Sets.{State}

@@ -1,13 +1,14 @@
 -- What it means that a set is closed under what remains of the rules, in terms of the rules themselves.
 use Rattle.std.proofs.Common.{◌≡◌, ℕ, Bool, true, false, cond, [], Some, None, Option, sym, refl, ap, ◌∙◌, subst, arith}
-use Rattle.books.specs.Meaning.{Rule, Meaning, bind_some, rule_at}
+use Rattle.books.specs.Meaning.{Rule, Meaning, rule_at}
+use Rattle.std.specs.Option.{option_and_then}
 use Rattle.models.specs.Sets.{Set}
 use Rattle.models.specs.Stability.{reduced, Closed}
 use Rattle.models.proofs.Truth.{false_in, never}
 use Rattle.std.specs.Bool.{IsTrue}
 use Rattle.std.specs.List.{list_all, list_any}
 
-bind_out : {X Y : Type 0} (f : X → Option Y) (o : Option X) (y : Y) → bind_some f o ≡ Some y → (x : X) × (o ≡ Some x) × (f x ≡ Some y)
+bind_out : {X Y : Type 0} (f : X → Option Y) (o : Option X) (y : Y) → option_and_then f o ≡ Some y → (x : X) × (o ≡ Some x) × (f x ≡ Some y)
 bind_out f None y e = let z : ◌≡◌ {A = ℕ} 0 1 = cc in absurd (omega arith)
 bind_out f (Some x) y e = (x, refl, e)
 
@@ -29,7 +30,7 @@ module _ {S : Type 0} (m : Meaning S) (M X : Set) where
 
   pub closed_out : Closed m M X → Leads
   closed_out closed k r e ps ns =
-      closed k (bare r) (ap (bind_some (reduced M)) e ∙ kept_in (list_any M r.negatives) (bare r) (false_in (list_any M r.negatives) ns)) ps
+      closed k (bare r) (ap (option_and_then (reduced M)) e ∙ kept_in (list_any M r.negatives) (bare r) (false_in (list_any M r.negatives) ns)) ps
 
   pub closed_in : Leads → Closed m M X
   closed_in leads k r e ps =

@@ -2,7 +2,7 @@
 use Rattle.std.specs.Prelude.{◌≡◌, ℕ, zero, suc, Bool, true, false, ◌&&◌, ◌||◌, List, [], ◌∷◌, length, ◌==◌}
 use Rattle.books.specs.Meaning.{Meaning}
 use Rattle.models.specs.Sets.{Set, Within, Empty, none, adding, removing, State}
-use Rattle.models.specs.Verdicts.{is_reading, due, safe, ruled_out}
+use Rattle.models.specs.Verdicts.{is_reading, due, safe}
 use Rattle.models.specs.Stability.{ReadingsOf}
 use Rattle.std.specs.Bool.{IsTrue}
 use Rattle.stamps.specs.Orders.{Tests}

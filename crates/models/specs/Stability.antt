@@ -1,6 +1,7 @@
 -- Stable models of a book: what remains of its rules once a set has judged their negatives, and the least set closed under that.
 use Rattle.std.specs.Prelude.{◌≡◌, ℕ, cond, [], Some, None, Option}
-use Rattle.books.specs.Meaning.{Rule, Meaning, bind_some, rule_at}
+use Rattle.books.specs.Meaning.{Rule, Meaning, rule_at}
+use Rattle.std.specs.Option.{option_and_then}
 use Rattle.models.specs.Sets.{Set, Within}
 use Rattle.models.specs.Verdicts.{is_reading}
 use Rattle.std.specs.Bool.{IsTrue}
@@ -12,7 +13,7 @@ reduced M r = cond (list_any M r.negatives) None (Some (record { head = r.head; 
 
 -- what remains of the rule of that number
 abbrev pub remaining : {S : Type 0} → Meaning S → Set → ℕ → Option Rule
-remaining m M k = bind_some (reduced M) (rule_at m k)
+remaining m M k = option_and_then (reduced M) (rule_at m k)
 
 -- X has the head of each remaining rule all of whose positives it has
 abbrev pub Closed : {S : Type 0} → Meaning S → Set → Set → Type 0

@@ -2,7 +2,7 @@
 use Rattle.std.specs.Prelude.{◌≡◌, ℕ, false, ◌||◌, List, ◌++◌, length}
 use Rattle.books.specs.Meaning.{Meaning}
 use Rattle.books.specs.Judged.{Sound}
-use Rattle.models.specs.Sets.{Set, Within, Same, Empty}
+use Rattle.models.specs.Sets.{Set, Within, Same}
 use Rattle.models.specs.Verdicts.{due, safe, ruled_out}
 use Rattle.models.specs.Stability.{ReadingsOf, Stable}
 use Rattle.models.specs.Moves.{Move, after_all, Run, reached, sweeps, fed_by, Outcome, NothingOpen, NothingDue, model_of}

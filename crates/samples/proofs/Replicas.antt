@@ -1,20 +1,13 @@
--- A list of equal elements, by place.
-use Rattle.std.proofs.Common.{◌≡◌, ℕ, ◌<◌, ◌≤◌, replicate, Some, None, ap, ◌∙◌}
+-- A place of equal items.
+use Rattle.std.proofs.Common.{◌≡◌, ℕ, zero, suc, replicate, nat_lt, arith}
+use Rattle.std.proofs.lemmas.Bool.Decides.{nat_tests}
+use Rattle.std.specs.Bool.{then_some}
 use Rattle.std.specs.List.{slice_get}
-use Rattle.std.specs.Option.{option_flatten}
-use Rattle.std.proofs.lemmas.List.{length-replicate, get_or-replicate}
-use Rattle.std.proofs.lemmas.Option.{slice_get-get_or, slice_get_past}
 
-module _ {X : Type 0} (n : ℕ) (x : X) (i : ℕ) where
-  pub there : i < n → slice_get (replicate n x) i ≡ Some x
-  there l = slice_get-get_or (replicate n x) i x (rw length-replicate l) ∙ ap Some (get_or-replicate n i x x l)
+-- item i of n equal items
+pub slice_get-replicate : {X : Type 0} (n : ℕ) (x : X) (i : ℕ) → slice_get (replicate n x) i ≡ then_some (nat_lt i n) x
+slice_get-replicate zero x i = grind (arith, nat_tests)
+slice_get-replicate (suc n) x zero = grind (arith, nat_tests)
+slice_get-replicate (suc n) x (suc i) = grind (arith, nat_tests, slice_get-replicate n x i)
 
-  pub gone : n ≤ i → slice_get (replicate n x) i ≡ None
-  gone l = slice_get_past (replicate n x) i (rw length-replicate l)
-
-module _ {X : Type 0} (n : ℕ) (x : X) (i : ℕ) where
-  pub filled : i < n → option_flatten (slice_get (replicate n (Some x)) i) ≡ Some x
-  filled l = ap option_flatten (there n (Some x) i l)
-
-  pub vacant : n ≤ i → option_flatten (slice_get (replicate n (Some x)) i) ≡ None
-  vacant l = ap option_flatten (gone n (Some x) i l)
+pub ruleset replicas = (slice_get-replicate)

@@ -19,35 +19,25 @@ pub(crate) fn refused(fault: Fault) -> (u8, usize, usize) {
 
 // What the check refuses the book with; none where it passes.
 pub(crate) fn told<B: Book>(book: &B) -> Option<(u8, usize, usize)> {
-    match check(book) {
-        Ok(()) => None,
-        Err(fault) => Some(refused(fault)),
-    }
+    check(book).err().map(refused)
 }
 
-fn reading(tick: u32) -> AtomRow<Tick> {
+fn atom(tick: u32, reading: bool) -> AtomRow<Tick> {
     AtomRow {
         stamp: Tick(tick),
-        reading: true,
-    }
-}
-
-fn derived(tick: u32) -> AtomRow<Tick> {
-    AtomRow {
-        stamp: Tick(tick),
-        reading: false,
+        reading,
     }
 }
 
 // Atoms: 0 and 1 are readings at ticks 1 and 2, atoms 2 to 5 are derived at ticks 2 to 5.
 fn told_of(rules: &[Option<RuleRow>]) -> Option<(u8, usize, usize)> {
     let atoms = [
-        reading(1),
-        reading(2),
-        derived(2),
-        derived(3),
-        derived(4),
-        derived(5),
+        atom(1, true),
+        atom(2, true),
+        atom(2, false),
+        atom(3, false),
+        atom(4, false),
+        atom(5, false),
     ];
     told(&Flat {
         atoms: &atoms,
@@ -56,7 +46,7 @@ fn told_of(rules: &[Option<RuleRow>]) -> Option<(u8, usize, usize)> {
 }
 
 fn told_rule(head: usize, positives: &[usize], negatives: &[usize]) -> Option<(u8, usize, usize)> {
-    told_of(&[None, RuleRow::of(head, positives, negatives)])
+    told_of(&[None, RuleRow::of(head, positives, negatives).ok()])
 }
 
 fn plain(atoms: usize, rules: usize, positives: usize, negatives: usize) -> Plain<Tick> {
@@ -97,9 +87,9 @@ fn the_fault_met_first_is_told(rt: HostRuntime) {
     assert_eq!(rt; told_rule(3, &[5, 6], &[]), Some((6, 1, 1)));
     assert_eq!(rt; told_rule(0, &[6], &[6]), Some((5, 1, 0)));
     let both = [
-        RuleRow::of(3, &[0], &[]),
-        RuleRow::of(3, &[], &[5]),
-        RuleRow::of(9, &[], &[]),
+        RuleRow::of(3, &[0], &[]).ok(),
+        RuleRow::of(3, &[], &[5]).ok(),
+        RuleRow::of(9, &[], &[]).ok(),
     ];
     assert_eq!(rt; told_of(&both), Some((7, 1, 1)));
 }
@@ -109,7 +99,7 @@ fn vacant_numbers_pass(rt: HostRuntime) {
     assert_eq!(rt; told_of(&[]), None);
     assert_eq!(rt; told_of(&[None, None, None]), None);
     assert_eq!(rt;
-        told_of(&[None, RuleRow::of(9, &[], &[]), None]),
+        told_of(&[None, RuleRow::of(9, &[], &[]).ok(), None]),
         Some((4, 1, 0))
     );
 }
@@ -158,12 +148,12 @@ fn told_on_routes(rules: &[Option<RuleRow>]) -> Option<(u8, usize, usize)> {
 #[test]
 fn unordered_routes_do_not_pass(rt: HostRuntime) {
     assert_eq!(rt;
-        told_on_routes(&[RuleRow::of(1, &[0], &[])]),
+        told_on_routes(&[RuleRow::of(1, &[0], &[]).ok()]),
         Some((6, 0, 1))
     );
-    assert_eq!(rt; told_on_routes(&[RuleRow::of(2, &[0], &[1])]), None);
+    assert_eq!(rt; told_on_routes(&[RuleRow::of(2, &[0], &[1]).ok()]), None);
     assert_eq!(rt;
-        told_on_routes(&[RuleRow::of(1, &[], &[0])]),
+        told_on_routes(&[RuleRow::of(1, &[], &[0]).ok()]),
         Some((7, 0, 1))
     );
 }

@@ -16,11 +16,11 @@ const LEVEL: (bool, bool, bool, bool) = (false, true, false, true);
 const UNORDERED: (bool, bool, bool, bool) = (false, false, false, false);
 
 fn route(aisles: &[u32]) -> Route {
-    let mut mask = 0u64;
-    for aisle in aisles {
-        mask |= 1u64 << (*aisle % 64);
+    Route {
+        aisles: aisles
+            .iter()
+            .fold(0, |mask, aisle| mask | 1 << (aisle % 64)),
     }
-    Route { aisles: mask }
 }
 
 fn pair<X, Y>(first: X, second: Y) -> Then<X, Y> {

@@ -1,7 +1,7 @@
 // A make for tests only: equal atoms and equal rules, as many as it is told.
 ghost use Rattle.samples.specs.Plains.{plain_meaning};
 
-use books::book::Book;
+use books::book::{Book, Sign};
 use stamps::order::Order;
 
 // All atoms are derived with one stamp; each rule has head 0 and atom 0 so often in its lists.
@@ -14,6 +14,7 @@ pub struct Plain<S> {
     pub negatives: usize,
 }
 
+#[tactic(auto, using(crate::proofs::Replicas::replicas))]
 impl<S: Order> Book for Plain<S> {
     type Stamp = S;
 
@@ -28,48 +29,26 @@ impl<S: Order> Book for Plain<S> {
     }
 
     fn stamp(&self, atom: usize) -> Option<S> {
-        if atom < self.atoms {
-            Some(self.stamp)
-        } else {
-            None
-        }
+        (atom < self.atoms).then_some(self.stamp)
     }
 
     fn reading(&self, atom: usize) -> Option<bool> {
-        if atom < self.atoms { Some(false) } else { None }
+        (atom < self.atoms).then_some(false)
     }
 
     fn head(&self, rule: usize) -> Option<usize> {
-        if rule < self.rules { Some(0) } else { None }
+        (rule < self.rules).then_some(0)
     }
 
-    fn positive_count(&self, rule: usize) -> Option<usize> {
-        if rule < self.rules {
-            Some(self.positives)
-        } else {
-            None
-        }
+    fn body_count(&self, rule: usize, sign: Sign) -> Option<usize> {
+        let count = match sign {
+            Sign::Positive => self.positives,
+            Sign::Negative => self.negatives,
+        };
+        (rule < self.rules).then_some(count)
     }
 
-    fn negative_count(&self, rule: usize) -> Option<usize> {
-        if rule < self.rules {
-            Some(self.negatives)
-        } else {
-            None
-        }
-    }
-
-    fn positive(&self, rule: usize, i: usize) -> Option<usize> {
-        if rule >= self.rules {
-            return None;
-        }
-        if i < self.positives { Some(0) } else { None }
-    }
-
-    fn negative(&self, rule: usize, i: usize) -> Option<usize> {
-        if rule >= self.rules {
-            return None;
-        }
-        if i < self.negatives { Some(0) } else { None }
+    fn body_atom(&self, rule: usize, sign: Sign, i: usize) -> Option<usize> {
+        (i < self.body_count(rule, sign)?).then_some(0)
     }
 }

@@ -1,7 +1,7 @@
 // Tests of the repeating and the struck book.
 use crate::checks::{refused, told};
-use books::book::Book;
-use makes::body::Body;
+use books::book::{Book, Sign};
+use makes::body::{Body, TooLong};
 use makes::patterns::{Pattern, Slot, Step};
 use makes::repeating::Repeating;
 use makes::struck::Struck;
@@ -13,17 +13,11 @@ fn step(slot: usize, back: usize) -> Step {
     Step { slot, back }
 }
 
-// A list has more than six steps.
-#[derive(Debug, Drop)]
-struct TooLong;
-
 fn pattern(head: usize, positives: &[Step], negatives: &[Step]) -> Result<Pattern, TooLong> {
-    let positives = Body::of(positives).ok_or(TooLong)?;
-    let negatives = Body::of(negatives).ok_or(TooLong)?;
     Ok(Pattern {
         head,
-        positives,
-        negatives,
+        positives: Body::of(positives)?,
+        negatives: Body::of(negatives)?,
     })
 }
 
@@ -43,25 +37,20 @@ fn made<'a>(
     ticks: usize,
     patterns: &'a [Pattern],
 ) -> Option<(u8, usize, usize)> {
-    let mut book = Repeating::empty();
-    match book.make(slots, ticks, patterns) {
-        Ok(()) => None,
-        Err(fault) => Some(refused(fault)),
-    }
+    Repeating::make(slots, ticks, patterns).err().map(refused)
 }
 
 #[test]
 fn a_slot_that_leans_on_no_self_one_tick_back(rt: HostRuntime) -> Result<(), Fail> {
     let slots = [PLAIN];
     let patterns = [pattern(0, &[], &[step(0, 1)])?];
-    let mut book = Repeating::empty();
-    book.make(&slots, 3, &patterns)?;
+    let book = Repeating::make(&slots, 3, &patterns)?;
     assert_eq!(rt; book.head(0), None);
     assert_eq!(rt; book.head(1), Some(1));
-    assert_eq!(rt; book.negative(1, 0), Some(0));
+    assert_eq!(rt; book.body_atom(1, Sign::Negative, 0), Some(0));
     assert_eq!(rt; book.head(2), Some(2));
-    assert_eq!(rt; book.negative(2, 0), Some(1));
-    assert_eq!(rt; book.positive_count(2), Some(0));
+    assert_eq!(rt; book.body_atom(2, Sign::Negative, 0), Some(1));
+    assert_eq!(rt; book.body_count(2, Sign::Positive), Some(0));
     assert_eq!(rt; (book.atom_count(), book.rule_count()), (3, 3));
     assert_eq!(rt; book.head(3), None);
     assert_eq!(rt; told(&book), None);
@@ -85,8 +74,7 @@ fn atoms_and_rules_are_numbered_by_tick(rt: HostRuntime) -> Result<(), Fail> {
         pattern(1, &[step(0, 0)], &[])?,
         pattern(2, &[step(1, 0)], &[step(2, 3)])?,
     ];
-    let mut book = Repeating::empty();
-    book.make(&slots, 5, &patterns)?;
+    let book = Repeating::make(&slots, 5, &patterns)?;
     assert_eq!(rt; book.atom_number(4, 2), Some(14));
     assert_eq!(rt; book.atom_number(5, 0), None);
     assert_eq!(rt; book.atom_number(0, 3), None);
@@ -102,8 +90,8 @@ fn atoms_and_rules_are_numbered_by_tick(rt: HostRuntime) -> Result<(), Fail> {
     assert_eq!(rt; book.reading(12), Some(true));
     assert_eq!(rt; book.stamp(15), None);
     assert_eq!(rt; book.head(7), Some(11));
-    assert_eq!(rt; book.positive(7, 0), Some(10));
-    assert_eq!(rt; book.negative(7, 0), Some(2));
+    assert_eq!(rt; book.body_atom(7, Sign::Positive, 0), Some(10));
+    assert_eq!(rt; book.body_atom(7, Sign::Negative, 0), Some(2));
     assert_eq!(rt; book.head(5), None);
     assert_eq!(rt; told(&book), None);
     Ok(())
@@ -148,8 +136,7 @@ fn nothing_repeats(rt: HostRuntime) -> Result<(), Fail> {
 fn no_tick_is_an_empty_book(rt: HostRuntime) -> Result<(), Fail> {
     let slots = [PLAIN];
     let patterns = [pattern(0, &[], &[])?];
-    let mut book = Repeating::empty();
-    book.make(&slots, 0, &patterns)?;
+    let book = Repeating::make(&slots, 0, &patterns)?;
     assert_eq!(rt; (book.atom_count(), book.rule_count()), (0, 0));
     assert_eq!(rt; told(&book), None);
     Ok(())
@@ -211,13 +198,12 @@ fn steps_reach_three_ticks_back(rt: HostRuntime) -> Result<(), Fail> {
         pattern(1, &[step(0, 0)], &[])?,
         pattern(1, &[step(0, 3)], &[])?,
     ];
-    let mut book = Repeating::empty();
-    book.make(&slots, 5, &patterns)?;
-    assert_eq!(rt; book.positive(0, 0), Some(0));
+    let book = Repeating::make(&slots, 5, &patterns)?;
+    assert_eq!(rt; book.body_atom(0, Sign::Positive, 0), Some(0));
     assert_eq!(rt; book.head(1), None);
     assert_eq!(rt; book.head(5), None);
     assert_eq!(rt; book.head(7), Some(7));
-    assert_eq!(rt; book.positive(7, 0), Some(0));
+    assert_eq!(rt; book.body_atom(7, Sign::Positive, 0), Some(0));
     assert_eq!(rt; told(&book), None);
     Ok(())
 }
@@ -227,9 +213,8 @@ fn told_after_refusal<'a>(
     slots: &'a [Slot],
     patterns: &'a [Pattern],
 ) -> Result<Option<(u8, usize, usize)>, Fail> {
-    let mut book = Repeating::empty();
-    book.make(slots, 3, patterns)?;
-    if book.make(slots, 1024, patterns).is_ok() {
+    let book = Repeating::make(slots, 3, patterns)?;
+    if Repeating::make(slots, 1024, patterns).is_ok() {
         return Err(Fail::new("a making over 1,024 ticks is to be refused"));
     }
     Ok(told(&book))
@@ -257,15 +242,14 @@ fn a_repeating_book_may_fail_the_check(rt: HostRuntime) -> Result<(), Fail> {
 fn a_struck_number_is_vacant(rt: HostRuntime) -> Result<(), Fail> {
     let slots = [READING, PLAIN];
     let patterns = [pattern(1, &[step(0, 0)], &[])?];
-    let mut below = Repeating::empty();
-    below.make(&slots, 100, &patterns)?;
+    let below = Repeating::make(&slots, 100, &patterns)?;
     let mut book = Struck::over(below);
     book.strike(65)?;
     book.strike(65)?;
     assert_eq!(rt; book.head(65), None);
-    assert_eq!(rt; book.positive_count(65), None);
-    assert_eq!(rt; book.negative_count(65), None);
-    assert_eq!(rt; book.positive(65, 0), None);
+    assert_eq!(rt; book.body_count(65, Sign::Positive), None);
+    assert_eq!(rt; book.body_count(65, Sign::Negative), None);
+    assert_eq!(rt; book.body_atom(65, Sign::Positive, 0), None);
     assert_eq!(rt; book.head(1), Some(3));
     assert_eq!(rt; book.head(64), Some(129));
     assert_eq!(rt; book.head(66), Some(133));
@@ -280,8 +264,7 @@ fn a_struck_number_is_vacant(rt: HostRuntime) -> Result<(), Fail> {
 fn striking_what_is_not_there_changes_nothing(rt: HostRuntime) -> Result<(), Fail> {
     let slots = [READING, PLAIN];
     let patterns = [pattern(1, &[step(0, 0)], &[])?];
-    let mut below = Repeating::empty();
-    below.make(&slots, 3, &patterns)?;
+    let below = Repeating::make(&slots, 3, &patterns)?;
     let mut book = Struck::over(below);
     book.strike(2)?;
     match book.strike(3) {
@@ -307,8 +290,7 @@ fn a_struck_book_stands_over_a_struck_book(rt: HostRuntime) -> Result<(), Fail> 
         pattern(1, &[step(0, 0)], &[])?,
         pattern(1, &[], &[step(1, 0)])?,
     ];
-    let mut below = Repeating::empty();
-    below.make(&slots, 2, &patterns)?;
+    let below = Repeating::make(&slots, 2, &patterns)?;
     let mut inner = Struck::over(below);
     assert_eq!(rt; told(&inner), Some((7, 1, 1)));
     inner.strike(1)?;

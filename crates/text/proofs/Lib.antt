@@ -1,5 +1,6 @@
 pub mod Turned
 pub mod Digits
+pub mod Risen
 pub mod Worded
 pub mod Bodied
 pub mod Surveyed

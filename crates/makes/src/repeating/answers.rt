@@ -8,37 +8,40 @@ ghost use Rattle.makes.specs.Repeats.{every_tick, instance_of, repeating_meaning
 use crate::instance::instance;
 use crate::repeating::Repeating;
 use crate::rows::{AtomRow, RuleRow};
-use books::book::Book;
+use books::book::{Book, Sign};
 use stamps::order::Order;
 use stamps::then::Then;
 use stamps::tick::Tick;
 
-// A slot at its tick.
-fn atom_row(book: &Repeating<'_>, atom: usize) -> Option<AtomRow<Then<Tick, Tick>>>
-    ensures { option_map atom_of result ≡ slice_get (every_tick slot_atom book.now.slots.now book.now.ticks) atom }
-{
-    let width = book.slots.len();
-    if atom >= book.ticks * width {
-        return None;
+impl Repeating<'_> {
+    // A slot at its tick.
+    fn atom(&self, atom: usize) -> Option<AtomRow<Then<Tick, Tick>>>
+        ensures { option_map atom_of result ≡ slice_get (every_tick slot_atom self.now.slots.now self.now.ticks) atom }
+    {
+        let width = self.slots.len();
+        if atom >= self.ticks * width {
+            return None;
+        }
+        let slot = self.slots[atom % width];
+        // The quotient is a tick, which is at most 1,024: a conversion that may fail would have nothing to refuse.
+        let first = Tick((atom / width) as u32);
+        let second = Tick(u32::from(slot.stage));
+        Some(AtomRow {
+            stamp: Then { first, second },
+            reading: slot.reading,
+        })
     }
-    let slot = book.slots[atom % width];
-    let first = Tick((atom / width) as u32);
-    let second = Tick(u32::from(slot.stage));
-    Some(AtomRow {
-        stamp: Then { first, second },
-        reading: slot.reading,
-    })
-}
 
-// A pattern at its tick, where it is not vacant.
-fn rule_row(book: &Repeating<'_>, rule: usize) -> Option<RuleRow>
-    ensures { option_map rule_of result ≡ option_flatten (slice_get (every_tick (instance_of (length book.now.slots.now)) book.now.patterns.now book.now.ticks) rule) }
-{
-    let count = book.patterns.len();
-    if rule >= book.ticks * count {
-        return None;
+    // A pattern at its tick; none where it is vacant.
+    fn rule(&self, rule: usize) -> Option<RuleRow>
+        ensures { option_map rule_of result ≡ option_flatten (slice_get (every_tick (instance_of (length self.now.slots.now)) self.now.patterns.now self.now.ticks) rule) }
+    {
+        let count = self.patterns.len();
+        if rule >= self.ticks * count {
+            return None;
+        }
+        instance(&self.patterns[rule % count], rule / count, self.slots.len())
     }
-    instance(&book.patterns[rule % count], rule / count, book.slots.len())
 }
 
 impl Book for Repeating<'_> {
@@ -55,37 +58,22 @@ impl Book for Repeating<'_> {
     }
 
     fn stamp(&self, atom: usize) -> Option<Then<Tick, Tick>> {
-        let row = atom_row(self, atom)?;
-        Some(row.stamp)
+        Some(self.atom(atom)?.stamp)
     }
 
     fn reading(&self, atom: usize) -> Option<bool> {
-        let row = atom_row(self, atom)?;
-        Some(row.reading)
+        Some(self.atom(atom)?.reading)
     }
 
     fn head(&self, rule: usize) -> Option<usize> {
-        let row = rule_row(self, rule)?;
-        Some(row.head)
+        Some(self.rule(rule)?.head)
     }
 
-    fn positive_count(&self, rule: usize) -> Option<usize> {
-        let row = rule_row(self, rule)?;
-        Some(row.positives.count())
+    fn body_count(&self, rule: usize, sign: Sign) -> Option<usize> {
+        Some(self.rule(rule)?.body(sign).count())
     }
 
-    fn negative_count(&self, rule: usize) -> Option<usize> {
-        let row = rule_row(self, rule)?;
-        Some(row.negatives.count())
-    }
-
-    fn positive(&self, rule: usize, i: usize) -> Option<usize> {
-        let row = rule_row(self, rule)?;
-        row.positives.get(i)
-    }
-
-    fn negative(&self, rule: usize, i: usize) -> Option<usize> {
-        let row = rule_row(self, rule)?;
-        row.negatives.get(i)
+    fn body_atom(&self, rule: usize, sign: Sign, i: usize) -> Option<usize> {
+        self.rule(rule)?.body(sign).get(i)
     }
 }

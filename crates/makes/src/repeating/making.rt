@@ -1,27 +1,26 @@
 // Making a repeating book, with its limits.
-ghost use Rattle.std.specs.Prelude.{◌≡◌, ◌*◌, ◌<◌, ◌≤◌, [], length, nat_le};
+ghost use Rattle.std.specs.Prelude.{◌≡◌, ◌*◌, ◌<◌, ◌≤◌, [], length, nat_le, Err, None, OnOk, IfErr, IfOk};
 ghost use Rattle.std.specs.List.{slice_get};
-ghost use Rattle.books.specs.Check.{first_below, unless};
-ghost use Rattle.books.specs.Meaning.{bind_some};
+ghost use Rattle.books.specs.Check.{refused_by};
+ghost use Rattle.std.specs.Option.{option_and_then};
 ghost use Rattle.makes.specs.Bodies.{body_items};
-ghost use Rattle.makes.specs.Repeats.{step_fault, steps, pattern_fault, making_fault, made_of, repeating_meaning};
+ghost use Rattle.makes.specs.Repeats.{step_fault, steps, pattern_fault, patterns_fault, making_fault, repeating_meaning};
 
 use crate::patterns::{Pattern, Slot, Step};
 use crate::repeating::Repeating;
 use books::check::MAX_ATOMS;
-use books::fault::{CheckFault, Fault};
+use books::fault::{CheckFault, Fault, MakeFault};
+use books::walk::first_refusal;
 
 // Whether the product is within the limit, however large the factors are.
 fn is_within(a: usize, b: usize) -> bool
     ensures { result ≡ nat_le (a * b) 1024 }
 {
-    match a.checked_mul(b) {
-        Some(product) => product <= MAX_ATOMS,
-        None => false,
-    }
+    a.checked_mul(b).is_some_and(|product| product <= MAX_ATOMS)
 }
 
 // Step `index` of a pattern, positives first.
+#[tactic(auto, using(crate::proofs::Steps::appended))]
 fn step_at(pattern: &Pattern, index: usize) -> Option<Step>
     ensures { result ≡ slice_get (steps pattern.now) index }
 {
@@ -34,60 +33,41 @@ fn step_at(pattern: &Pattern, index: usize) -> Option<Step>
 }
 
 // One step: its slot is there, and it goes at most 3 ticks back.
-fn check_step(pattern: &Pattern, width: usize, number: usize, index: usize) -> Result<(), Fault>
+fn check_step(pattern: &Pattern, width: usize, number: usize, index: usize) -> Result<(), MakeFault>
     requires { index < 12 }
-    ensures { result ≡ unless (bind_some (step_fault width number index) (slice_get (steps pattern.now) index)) }
+    ensures { result ≡ refused_by (option_and_then (step_fault width number index) (slice_get (steps pattern.now) index)) }
 {
-    let Some(step) = step_at(pattern, index) else {
-        return Ok(());
-    };
-    if step.slot >= width || step.back > 3 {
-        let literal = index + 1;
-        return Err(Fault::Checking(CheckFault::SlotMissing {
+    match step_at(pattern, index) {
+        Some(step) if step.slot >= width || step.back > 3 => Err(MakeFault::SlotMissing {
             pattern: number,
-            literal,
-        }));
+            literal: index + 1,
+        }),
+        _ => Ok(()),
     }
-    Ok(())
-}
-
-// The first `count` steps of a pattern, up to the first fault.
-fn check_steps(pattern: &Pattern, width: usize, number: usize, count: usize) -> Result<(), Fault>
-    requires { count ≤ 12 }
-    ensures { result ≡ unless (first_below count (λ i. bind_some (step_fault width number i) (slice_get (steps pattern.now) i))) }
-{
-    for index in 0..count {
-        check_step(pattern, width, number, index)?;
-    }
-    Ok(())
 }
 
 // A pattern's head, then its steps.
-fn check_pattern(pattern: &Pattern, width: usize, number: usize) -> Result<(), Fault>
-    ensures { result ≡ unless (pattern_fault width number pattern.now) }
+fn check_pattern(pattern: &Pattern, width: usize, number: usize) -> Result<(), MakeFault>
+    ensures { result ≡ refused_by (pattern_fault width number pattern.now) }
 {
     if pattern.head >= width {
-        return Err(Fault::Checking(CheckFault::SlotMissing {
+        return Err(MakeFault::SlotMissing {
             pattern: number,
             literal: 0,
-        }));
+        });
     }
-    check_steps(
-        pattern,
-        width,
-        number,
-        pattern.positives.count() + pattern.negatives.count(),
-    )
+    let count = pattern.positives.count() + pattern.negatives.count();
+    first_refusal(count, |index| check_step(pattern, width, number, index))
 }
 
 // The patterns in order, up to the first fault.
-fn check_patterns(patterns: &[Pattern], width: usize) -> Result<(), Fault>
-    ensures { result ≡ unless (first_below (length patterns.now) (λ k. bind_some (pattern_fault width k) (slice_get patterns.now k))) }
+fn check_patterns(patterns: &[Pattern], width: usize) -> Result<(), MakeFault>
+    ensures { result ≡ refused_by (patterns_fault width patterns.now) }
 {
-    for (number, pattern) in patterns.iter().enumerate() {
-        check_pattern(pattern, width, number)?;
-    }
-    Ok(())
+    first_refusal(
+        patterns.len(),
+        |number| check_pattern(&patterns[number], width, number),
+    )
 }
 
 impl<'a> Repeating<'a> {
@@ -102,28 +82,27 @@ impl<'a> Repeating<'a> {
         }
     }
 
-    // Makes this the book of these tables over so many ticks; a refusal leaves it as it was.
+    // The book of these tables over so many ticks.
     pub fn make(
-        &mut self,
         slots: &'a [Slot],
         ticks: usize,
         patterns: &'a [Pattern],
-    ) -> Result<(), Fault>
-        ensures answer { result ≡ unless (making_fault slots.now ticks patterns.now) }
-        ensures slots { self.new.slots.now ≡ made_of (making_fault slots.now ticks patterns.now) slots.now self.old.slots.now }
-        ensures ticks { self.new.ticks ≡ made_of (making_fault slots.now ticks patterns.now) ticks self.old.ticks }
-        ensures patterns { self.new.patterns.now ≡ made_of (making_fault slots.now ticks patterns.now) patterns.now self.old.patterns.now }
-        ensures meaning { repeating_meaning self.new.slots.now self.new.ticks self.new.patterns.now ≡ made_of (making_fault slots.now ticks patterns.now) (repeating_meaning slots.now ticks patterns.now) (repeating_meaning self.old.slots.now self.old.ticks self.old.patterns.now) }
+    ) -> Result<Repeating<'a>, Fault>
+        ensures made { OnOk result (making_fault slots.now ticks patterns.now ≡ None) }
+        ensures refused { IfErr result (λ fault. refused_by (making_fault slots.now ticks patterns.now) ≡ Err fault) }
+        ensures slots { IfOk result (λ book. book.slots.now ≡ slots.now) }
+        ensures ticks { IfOk result (λ book. book.ticks ≡ ticks) }
+        ensures patterns { IfOk result (λ book. book.patterns.now ≡ patterns.now) }
+        ensures meaning { IfOk result (λ book. repeating_meaning book.slots.now book.ticks book.patterns.now ≡ repeating_meaning slots.now ticks patterns.now) }
     {
         if !is_within(slots.len(), ticks) || !is_within(patterns.len(), ticks) {
-            return Err(Fault::Checking(CheckFault::TooLarge));
+            return Err(CheckFault::TooLarge.into());
         }
         check_patterns(patterns, slots.len())?;
-        *self = Repeating {
+        Ok(Repeating {
             slots,
             ticks,
             patterns,
-        };
-        Ok(())
+        })
     }
 }

@@ -12,11 +12,7 @@ fn place(tick: usize, ticks: usize, item: usize, items: usize) -> Option<usize>
     requires { items * ticks ≤ 1024 }
     ensures { result ≡ then_some (nat_lt tick ticks && nat_lt item items) (tick * items + item) }
 {
-    if tick < ticks && item < items {
-        Some(tick * items + item)
-    } else {
-        None
-    }
+    (tick < ticks && item < items).then(|| tick * items + item)
 }
 
 impl Repeating<'_> {

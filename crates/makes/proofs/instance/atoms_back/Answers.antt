@@ -1,8 +1,6 @@
-use Rattle.std.proofs.Common.{◌≡◌, ℕ, ◌-◌, ◌<◌, ◌≤◌, leb, [], ◌∷◌, ◌++◌, map, length, get_or, take, sym, ap, ◌∙◌, arith, length-set, take_all}
-use Rattle.std.specs.Bool.{then_some}
+use Rattle.std.proofs.Common.{◌≡◌, ℕ, ◌<◌, [], ◌∷◌, ◌++◌, map, length, get_or, take, sym, ap, ◌∙◌, arith, length-set, take_all}
 use Rattle.std.proofs.ByRecursion.{All-get_or}
-use Rattle.std.proofs.lemmas.List.{take_more, take_more_set, length-map, map-append}
-use Rattle.std.proofs.lemmas.Bool.{le-leb}
+use Rattle.std.proofs.lemmas.List.{take_more, take_more_set, map-append}
 use Rattle.makes.specs.Repeats.{atom_back}
 use Rattle.makes.specs.declared.patterns.Step.{Step}
 use Rattle.makes.proofs.Instances.{no_step, all_back, atom_below}
@@ -34,9 +32,5 @@ loop-i-preserved c =
 pub returns : goal.returns
 returns c =
     let steps = c.args.steps.now in
-    let f : Step → ℕ = atom_back c.args.width c.args.tick in
-    let count : length steps - 0 ≡ c.loop-i.i = omega arith in
-    let part : take (length steps - 0) c.loop-i.atoms ≡ map f steps =
-    ap (λ n. take n c.loop-i.atoms) count ∙ c.loop-i.invariant.1 ∙ ap (map f) (take_all c.loop-i.i steps c.loop-i-test.false) in
-    let few : length (map f steps) ≤ 6 = simp length-map c.requires.few in
-    c.of.ensures ∙ ap (λ xs. then_some (leb (length xs) 6) xs) part ∙ ap (λ b. then_some b (map f steps)) (le-leb (length (map f steps)) 6 few)
+    let count : length steps ≡ c.loop-i.i = omega arith in
+    c.with.ensures ∙ ap (λ n. take n c.loop-i.atoms) count ∙ c.loop-i.invariant.1 ∙ ap (map (atom_back c.args.width c.args.tick)) (take_all c.loop-i.i steps c.loop-i-test.false)

@@ -1,0 +1,139 @@
+// The walk over a book's rules by number, up to the first fault.
+ghost use Rattle.std.specs.Prelude.{◌≡◌, ℕ, ◌<◌, ◌≤◌, Option, Some};
+ghost use Rattle.books.specs.Check.{Answers, first_below, refused_by, asked_tests, barred, literal_fault, rule_walk, book_walk};
+ghost use Rattle.books.specs.declared.book.Sign.TheVariants.{Positive};
+ghost use Rattle.books.specs.Meaning.{body_count_of, literal_of};
+
+use crate::book::{Book, Sign};
+use crate::check::{MAX_ATOMS, MAX_BODY, MAX_RULES};
+use crate::fault::CheckFault;
+use stamps::order::Order;
+
+// What a walk asks of the atoms of each rule.
+#[derive(Clone, Copy, PartialEq, Eq, Debug)]
+pub enum Asked {
+    // That each atom is in the book.
+    Declared,
+    // Besides, that the head is no reading, and that each literal's stamp fits the head's.
+    Ordered,
+}
+
+impl Asked {
+    // Whether a head of such a kind is refused.
+    fn bars(self, reading: bool) -> bool
+        ensures { result ≡ barred self reading }
+    {
+        match self {
+            Asked::Declared => false,
+            Asked::Ordered => reading,
+        }
+    }
+}
+
+// The tests at the numbers below `count` in order, up to the first that refuses.
+pub fn first_refusal<E, F: Fn(usize) -> Result<(), E>>(count: usize, test: F) -> Result<(), E>
+    requires { (i : ℕ) → i < count → F.pre test i }
+    ensures { (fault_at : ℕ → Option E) → Answers (F.post test) count fault_at → result ≡ refused_by (first_below count fault_at) }
+{
+    for i in 0..count {
+        test(i)?;
+    }
+    Ok(())
+}
+
+// A rule whose literals are walked.
+#[derive(Drop)]
+struct Walked<'b, B: Book> {
+    book: &'b B,
+    asked: Asked,
+    rule: usize,
+    positives: usize,
+    head: B::Stamp,
+    ghost counted: { body_count_of (B.Book.meaning book.now) rule Positive ≡ Some positives },
+}
+
+impl<'b, B: Book> Walked<'b, B> {
+    // The atom at `index` among the rule's literals, positives first.
+    #[tactic(auto, using(crate::proofs::Literals::literal_positive, crate::proofs::Literals::literal_negative))]
+    fn literal(&self, index: usize) -> Option<usize>
+        ensures { result ≡ literal_of (B.Book.meaning self.now.book.now) self.now.rule index }
+    {
+        if index < self.positives {
+            self.book.body_atom(self.rule, Sign::Positive, index)
+        } else {
+            self.book
+                .body_atom(self.rule, Sign::Negative, index - self.positives)
+        }
+    }
+
+    // One literal: its atom is there, and where it is asked, its stamp is not after the head's if positive, before it if negative.
+    fn check_literal(&self, index: usize) -> Result<(), CheckFault>
+        requires few { index < 12 }
+        ensures { result ≡ refused_by (literal_fault (asked_tests self.now.asked B.Stamp.Order.tests) (B.Book.meaning self.now.book.now) self.now.rule self.now.positives self.now.head index) }
+    {
+        let Some(atom) = self.literal(index) else {
+            return Ok(());
+        };
+        let rule = self.rule;
+        let literal = index + 1;
+        let Some(stamp) = self.book.stamp(atom) else {
+            return Err(CheckFault::LiteralMissing { rule, literal });
+        };
+        match self.asked {
+            Asked::Declared => Ok(()),
+            Asked::Ordered => {
+                if index < self.positives {
+                    if stamp.not_after(&self.head) {
+                        Ok(())
+                    } else {
+                        Err(CheckFault::PositiveOutOfOrder { rule, literal })
+                    }
+                } else if stamp.before(&self.head) {
+                    Ok(())
+                } else {
+                    Err(CheckFault::NegativeOutOfOrder { rule, literal })
+                }
+            }
+        }
+    }
+}
+
+// One rule number: lengths, head, then the literals. A vacant number passes.
+pub(crate) fn walk_rule<B: Book>(book: &B, asked: Asked, rule: usize) -> Result<(), CheckFault>
+    ensures { result ≡ refused_by (rule_walk asked B.Stamp.Order.tests (B.Book.meaning book.now) rule) }
+{
+    let (Some(head), Some(positives), Some(negatives)) = (
+        book.head(rule),
+        book.body_count(rule, Sign::Positive),
+        book.body_count(rule, Sign::Negative),
+    ) else {
+        return Ok(());
+    };
+    if positives > MAX_BODY || negatives > MAX_BODY {
+        return Err(CheckFault::BodyTooLong { rule });
+    }
+    let (Some(stamp), Some(reading)) = (book.stamp(head), book.reading(head)) else {
+        return Err(CheckFault::HeadMissing { rule });
+    };
+    if asked.bars(reading) {
+        return Err(CheckFault::HeadIsReading { rule });
+    }
+    let walked = Walked {
+        book,
+        asked,
+        rule,
+        positives,
+        head: stamp,
+    };
+    first_refusal(positives + negatives, |index| walked.check_literal(index))
+}
+
+// Both counts, then the rules by number, up to the first fault.
+pub fn walk<B: Book>(book: &B, asked: Asked) -> Result<(), CheckFault>
+    ensures { result ≡ refused_by (book_walk asked B.Stamp.Order.tests (B.Book.meaning book.now)) }
+{
+    if book.atom_count() > MAX_ATOMS || book.rule_count() > MAX_RULES {
+        return Err(CheckFault::TooLarge);
+    }
+    first_refusal(book.rule_count(), |rule| walk_rule(book, asked, rule))
+}
