@@ -3,7 +3,7 @@ use Rattle.std.specs.Prelude.{◌≡◌, ℕ, ◌+◌, ◌≤◌, ◌⊎◌, Lis
 use Rattle.std.specs.List.{slice_get}
 use Rattle.books.specs.declared.fault.ReadFault.TheVariants.{Byte, NotRising, Number, TooMany, AtomMissing}
 use Rattle.books.specs.declared.fault.Fault.{Fault}
-use Rattle.books.specs.declared.fault.Fault.TheVariants.{Reading, Checking}
+use Rattle.books.specs.declared.fault.Fault.TheVariants.{Reading, Checking, Making}
 use Rattle.text.specs.Numbers.{digit_of}
 use Rattle.grammar.specs.Pieces.{Care, shape, kept, plain}
 
@@ -15,6 +15,7 @@ AtByte (Reading (Number k)) P = Unit {0}
 AtByte (Reading (TooMany k)) P = Unit {0}
 AtByte (Reading (AtomMissing r l)) P = Unit {0}
 AtByte (Checking f) P = Unit {0}
+AtByte (Making f) P = Unit {0}
 
 -- the two texts have the same bytes up to a place and at it
 abbrev pub Same : List ℕ → List ℕ → ℕ → Type 0
