@@ -13,7 +13,7 @@ use Rattle.books.specs.declared.fault.MakeFault.{MakeFault}
 use Rattle.books.specs.declared.fault.MakeFault.TheVariants.{SlotMissing}
 use Rattle.books.specs.declared.fault.Fault.TheVariants.{Checking, Making}
 use Rattle.books.proofs.First.{first_none}
-use Rattle.books.proofs.Places.{slice_get_some}
+use Rattle.std.proofs.lemmas.Option.{slice_get_within}
 use Rattle.makes.specs.Bodies.{body_items}
 use Rattle.makes.specs.Repeats.{steps, step_fault, pattern_fault, patterns_fault, making_fault}
 use Rattle.makes.specs.declared.patterns.Slot.{Slot}
@@ -70,4 +70,4 @@ module _ (slots : List Slot) (ticks : ℕ) (patterns : List Pattern) (made : mak
   pub pattern_fine : (k : ℕ) (p : Pattern) → slice_get patterns k ≡ Some p → pattern_fault (length slots) k p ≡ None
   pattern_fine k p e =
       sym (ap (option_and_then (pattern_fault (length slots) k)) e)
-      ∙ first_none (λ k. option_and_then (pattern_fault (length slots) k) (slice_get patterns k)) (length patterns) (no_fault Making _ counts.1) k (slice_get_some patterns k p e)
+      ∙ first_none (λ k. option_and_then (pattern_fault (length slots) k) (slice_get patterns k)) (length patterns) (no_fault Making _ counts.1) k (slice_get_within patterns k p e)
