@@ -1,11 +1,12 @@
 -- Worked cases of the definitions, in one table.
-use Rattle.std.specs.Prelude.{◌≡◌, ℕ, true, false, [], ◌∷◌, Some, None, Option, nat_le, nat_lt}
+use Rattle.std.specs.Prelude.{◌≡◌, ℕ, true, false, [], ◌∷◌, Some, None, Option}
 use Rattle.std.specs.Option.{option_map}
 use Rattle.stamps.specs.Aisles.{part_of, proper_part}
 use Rattle.books.specs.Meaning.{Atom, Meaning}
 use Rattle.books.specs.Check.{book_fault}
 use Rattle.books.specs.Faults.{check_refusal, checking_at}
 use Rattle.books.specs.declared.fault.Refusal.{Refusal}
+use Rattle.stamps.specs.Orders.{tick_tests}
 
 -- a derived atom at a tick
 abbrev at : ℕ → Atom ℕ
@@ -21,7 +22,7 @@ leans_on_no tick = record { atoms = at tick ∷ at 5 ∷ []; rules = Some (recor
 
 -- what the check tells of a book stamped by ticks
 abbrev pub told : Meaning ℕ → Option Refusal
-told m = option_map check_refusal (book_fault nat_lt nat_le m)
+told m = option_map check_refusal (book_fault (tick_tests (λ n. n)) m)
 
 pub record Cases : Type 0 where
   pub negative_level : told (leans_on_no 5) ≡ Some (checking_at 7 0 1)

@@ -1,9 +1,9 @@
 use Rattle.std.proofs.Common.{refl}
-use Rattle.stamps.specs.Aisles.{shares_below, part_of}
+use Rattle.stamps.specs.Aisles.{part_of}
 use Rattle.samples.proofs.cases.cases_hold.Goals as goal
 
 pub returns : goal.returns
-unfolding shares_below part_of
+unfolding part_of
 returns c = record {
   negative_level = refl;
   negative_before = refl;
