@@ -1,5 +1,6 @@
 -- What the check meets in one rule, against what the rule is to be.
-use Rattle.std.proofs.Common.{◌≡◌, ℕ, ◌+◌, ◌-◌, ◌*◌, ◌<◌, ◌≤◌, true, false, ◌||◌, T, ltb, ◌⊎◌, length, Some, None, Option, sym, refl, ap, ◌∙◌, subst, inl, inr, arith, length-append}
+use Rattle.std.proofs.Common.{◌≡◌, ℕ, ◌+◌, ◌-◌, ◌*◌, ◌<◌, ◌≤◌, true, false, ◌||◌, ltb, ◌⊎◌, length, Some, None, Option, sym, refl, ap, ◌∙◌, subst, inl, inr, arith, length-append}
+use Rattle.std.specs.Bool.{IsTrue}
 use Rattle.std.specs.List.{slice_get}
 use Rattle.std.proofs.iter.runs.Lists.{nth_left, nth_right}
 use Rattle.std.proofs.lemmas.Option.{slice_get_within, slice_get_past, slice_get_cases}
@@ -80,12 +81,12 @@ module _ {S : Type 0} (tests : Tests S) (m : Meaning S) (k : ℕ) (r : Rule) (at
             few_positives = grind (arith, nat_tests);
             few_negatives = grind (arith, nat_tests);
             derived = grind arith;
-            positives = all_slice_get (λ a. T (relates tests.not_after m a r.head)) r.positives (λ i a at_i.
+            positives = all_slice_get (λ a. IsTrue (relates tests.not_after m a r.head)) r.positives (λ i a at_i.
                 let l = slice_get_within r.positives i a at_i in
                 let found = nth_left r.positives r.negatives i l in
                 let clear = none i (omega arith) in
                 grind (arith, nat_tests));
-            negatives = all_slice_get (λ a. T (relates tests.before m a r.head)) r.negatives (λ i a at_i.
+            negatives = all_slice_get (λ a. IsTrue (relates tests.before m a r.head)) r.negatives (λ i a at_i.
                 let l = slice_get_within r.negatives i a at_i in
                 let found = nth_right r.positives r.negatives i in
                 let clear = none (p + i) (omega arith) in
@@ -99,11 +100,11 @@ module _ {S : Type 0} (tests : Tests S) (m : Meaning S) (k : ℕ) (r : Rule) (at
       by_atom None gone = grind arith
       by_atom (Some a) found = elim (cases_lt i p) [
         | inl below ↦
-            let fits = slice_get_all (λ b. T (relates tests.not_after m b r.head)) r.positives s.positives i a (sym (nth_left r.positives r.negatives i below) ∙ found) in
+            let fits = slice_get_all (λ b. IsTrue (relates tests.not_after m b r.head)) r.positives s.positives i a (sym (nth_left r.positives r.negatives i below) ∙ found) in
             grind (arith, nat_tests)
         | inr past ↦
             let j : i ≡ p + (i - p) = omega arith in
-            let fits = slice_get_all (λ b. T (relates tests.before m b r.head)) r.negatives s.negatives (i - p) a (sym (ap (slice_get (literals r)) j ∙ nth_right r.positives r.negatives (i - p)) ∙ found) in
+            let fits = slice_get_all (λ b. IsTrue (relates tests.before m b r.head)) r.negatives s.negatives (i - p) a (sym (ap (slice_get (literals r)) j ∙ nth_right r.positives r.negatives (i - p)) ∙ found) in
             grind (arith, nat_tests)
       ]
 

@@ -1,5 +1,6 @@
 -- What the check's verdict says of a book.
-use Rattle.std.specs.Prelude.{◌≡◌, ℕ, ◌+◌, ◌*◌, ◌<◌, ◌≤◌, Bool, true, false, T, ◌⊎◌, length, Some, None, Ok, Err, Option, Result}
+use Rattle.std.specs.Prelude.{◌≡◌, ℕ, ◌+◌, ◌*◌, ◌<◌, ◌≤◌, Bool, true, false, ◌⊎◌, length, Some, None, Ok, Err, Option, Result}
+use Rattle.std.specs.Bool.{IsTrue}
 use Rattle.std.specs.List.{slice_get, AllByRecursion}
 use Rattle.books.specs.Meaning.{Rule, Meaning, rule_at, literals, stamp_of, reading_of}
 use Rattle.stamps.specs.Orders.{Tests}
@@ -24,8 +25,8 @@ pub record SoundRule {S : Type 0} (tests : Tests S) (m : Meaning S) (r : Rule) :
   pub few_positives : length r.positives ≤ 6
   pub few_negatives : length r.negatives ≤ 6
   pub derived : reading_of m r.head ≡ Some false
-  pub positives : AllByRecursion (λ a. T (relates tests.not_after m a r.head)) r.positives
-  pub negatives : AllByRecursion (λ a. T (relates tests.before m a r.head)) r.negatives
+  pub positives : AllByRecursion (λ a. IsTrue (relates tests.not_after m a r.head)) r.positives
+  pub negatives : AllByRecursion (λ a. IsTrue (relates tests.before m a r.head)) r.negatives
 
 -- a book within the limits whose every rule is sound
 pub record Sound {S : Type 0} (tests : Tests S) (m : Meaning S) : Type 0 where

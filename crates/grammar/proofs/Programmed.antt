@@ -14,7 +14,8 @@ use Rattle.text.specs.Kinds.{begins}
 use Rattle.text.specs.Orders.{tick_order, route_order, then_order, word_of, order_refused}
 use Rattle.text.specs.Words.{agrees_to, is_byte}
 use Rattle.text.specs.declared.order.Word.TheVariants as word
-use Rattle.writing.specs.Replies.{checked_text, canonical_at, tick_before, tick_not_after, route_before, route_not_after, then_before, then_not_after, by_word, program_at}
+use Rattle.stamps.specs.Kinds as kinds
+use Rattle.writing.specs.Replies.{checked_text, canonical_at, by_word, program_at}
 use Rattle.writing.specs.Writes.{book_gap, write_answer}
 use Rattle.grammar.specs.Notations.{Notation, ticks, routes, pairs}
 use Rattle.grammar.specs.Programs.{RefusedByAll, ProgramRefusesThere}
@@ -281,9 +282,9 @@ pub program_refuses_there_lem : ProgramRefusesThere
 unfolding program_at
 program_refuses_there_lem text tick_rows route_rows pair_rows rules room k e =
     by_order text _ _ _ k
-    (λ h. refused_at_the_first_byte_lem ticks lawful_ticks text tick_rows rules k (read_refused ticks tick_before tick_not_after text tick_rows rules room k h))
-    (λ h. refused_at_the_first_byte_lem routes lawful_routes text route_rows rules k (read_refused routes route_before route_not_after text route_rows rules room k h))
-    (λ h. refused_at_the_first_byte_lem pairs lawful_pairs text pair_rows rules k (read_refused pairs then_before then_not_after text pair_rows rules room k h))
+    (λ h. refused_at_the_first_byte_lem ticks lawful_ticks text tick_rows rules k (read_refused ticks kinds.ticks text tick_rows rules room k h))
+    (λ h. refused_at_the_first_byte_lem routes lawful_routes text route_rows rules k (read_refused routes kinds.routes text route_rows rules room k h))
+    (λ h. refused_at_the_first_byte_lem pairs lawful_pairs text pair_rows rules k (read_refused pairs kinds.pairs text pair_rows rules room k h))
     (short (ltb 65536 (length text)) _ e)
   where
     short : (t : Bool) (r : Result (List ℕ) Fault) → cond t (Err (Reading (TooMany 0))) r ≡ Err (Reading (Byte k)) → r ≡ Err (Reading (Byte k))

@@ -1,5 +1,5 @@
 -- What ties reading and writing to the grammar.
-use Rattle.std.specs.Prelude.{◌≡◌, ℕ, ◌+◌, ◌<◌, ◌≤◌, min, Bool, List, ◌++◌, length, take, None, Ok, Err, Result}
+use Rattle.std.specs.Prelude.{◌≡◌, ℕ, ◌+◌, ◌<◌, ◌≤◌, min, List, ◌++◌, length, take, None, Ok, Err, Result}
 use Rattle.std.specs.List.{AllByRecursion}
 use Rattle.books.specs.Meaning.{Atom, Meaning}
 use Rattle.books.specs.declared.fault.ReadFault.TheVariants.{Byte}

@@ -1,7 +1,9 @@
 -- How many numbers below another are in a set.
-use Rattle.std.proofs.Common.{◌≡◌, ℕ, zero, suc, ◌+◌, ◌<◌, ◌≤◌, Bool, true, false, T, refl, subst, ⊎_elim, not-suc-le-zero, arith}
+use Rattle.std.proofs.Common.{◌≡◌, ℕ, zero, suc, ◌+◌, ◌<◌, ◌≤◌, Bool, true, false, refl, subst, ⊎_elim, not-suc-le-zero, arith}
 use Rattle.std.proofs.lemmas.Bool.{cases_eq}
 use Rattle.models.specs.Sets.{Set, Within}
+use Rattle.std.specs.Bool.{IsTrue}
+use Rattle.models.proofs.Truth.{never}
 
 -- one where the test passes
 abbrev pub one : Bool → ℕ
@@ -13,16 +15,16 @@ abbrev pub count_below : ℕ → Set → ℕ
 count_below zero X = 0
 count_below (suc n) X = one (X n) + count_below n X
 
-one_within : (x y : Bool) → (T x → T y) → one x ≤ one y
+one_within : (x y : Bool) → (IsTrue x → IsTrue y) → one x ≤ one y
 one_within true true f = omega arith
-one_within true false f = absurd (f tt)
+one_within true false f = never (f refl)
 one_within false true f = omega arith
 one_within false false f = omega arith
 
-one_less : (x y : Bool) → (T x → ⊥) → T y → one x < one y
-one_less true y f t = absurd (f tt)
+one_less : (x y : Bool) → (IsTrue x → ⊥) → IsTrue y → one x < one y
+one_less true y f t = absurd (f refl)
 one_less false true f t = omega arith
-one_less false false f t = absurd t
+one_less false false f t = never t
 
 one_top : (x : Bool) → one x ≤ 1
 one_top true = omega arith
@@ -36,7 +38,7 @@ count_within (suc n) X Y f =
     omega arith
 
 -- a set within another that lacks one of its numbers has fewer
-pub count_less : (n : ℕ) (X Y : Set) → Within X Y → (a : ℕ) → a < n → T (Y a) → (T (X a) → ⊥) → count_below n X < count_below n Y
+pub count_less : (n : ℕ) (X Y : Set) → Within X Y → (a : ℕ) → a < n → IsTrue (Y a) → (IsTrue (X a) → ⊥) → count_below n X < count_below n Y
 count_less zero X Y f a l y x = absurd (not-suc-le-zero l)
 count_less (suc n) X Y f a l y x =
     ⊎_elim
@@ -55,14 +57,14 @@ count_top (suc n) X =
     let h : one (X n) ≤ 1 = one_top (X n) in let r : count_below n X ≤ n = count_top n X in omega arith
 
 -- a set that has a number below n is not counted as empty
-pub count_some : (n : ℕ) (X : Set) (a : ℕ) → a < n → T (X a) → 0 < count_below n X
+pub count_some : (n : ℕ) (X : Set) (a : ℕ) → a < n → IsTrue (X a) → 0 < count_below n X
 count_some zero X a l t = absurd (not-suc-le-zero l)
 count_some (suc n) X a l t =
     ⊎_elim
-    (λ e. let h : one (X n) ≡ 1 = full (X n) (subst (λ (b : ℕ). T (X b)) e t) in omega arith)
+    (λ e. let h : one (X n) ≡ 1 = full (X n) (subst (λ (b : ℕ). IsTrue (X b)) e t) in omega arith)
     (λ g. let g' : a ≡ n → ⊥ = g in let r : 0 < count_below n X = count_some n X a (omega arith) t in omega arith)
     (cases_eq a n)
   where
-    full : (x : Bool) → T x → one x ≡ 1
+    full : (x : Bool) → IsTrue x → one x ≡ 1
     full true p = refl
-    full false p = absurd p
+    full false p = never p

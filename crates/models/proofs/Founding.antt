@@ -1,33 +1,36 @@
 -- What is held is founded: it is in every set that has the fed readings and the heads of those rules
 -- whose positives it has and whose negatives are ruled out.
-use Rattle.std.proofs.Common.{◌≡◌, ℕ, Bool, true, false, not, ◌&&◌, ◌||◌, T, eqb, ◌⊎◌, List, [], ◌∷◌, Some, refl, subst, inl, inr, ⊎_elim, eqb→eq}
+use Rattle.std.proofs.Common.{◌≡◌, ℕ, Bool, true, false, not, ◌&&◌, ◌||◌, eqb, ◌⊎◌, List, [], ◌∷◌, Some, refl, subst, inl, inr, ⊎_elim}
 use mathlib.Core.Path.{fun_ext}
 use Rattle.books.specs.Meaning.{Rule, Meaning, rule_at}
 use Rattle.books.specs.Judged.{Sound, relates}
-use Rattle.models.specs.Sets.{Set, Within, every, some, none}
-use Rattle.models.specs.Orders.{Lawful}
-use Rattle.models.specs.Verdicts.{is_reading, holds, pending, safe}
+use Rattle.models.specs.Sets.{Set, Within, none}
+use Rattle.models.specs.Verdicts.{is_reading, holds, pending, safe, ruled_out}
 use Rattle.models.specs.Stability.{ReadingsOf}
-use Rattle.models.specs.Moves.{State, Move, feed, close, take, sweep, start, may, after, after_all, may_all, reached, feeds, closes, fed_by, ruled_out_in}
-use Rattle.models.proofs.Truth.{and_in, and_left, and_right, or_left, or_right, or_out, not_in, either, or_assoc}
+use Rattle.models.specs.Moves.{Move, feed, close, take, sweep, start, may, after, after_all, may_all, reached, feeds, closes, fed_by}
+use Rattle.models.specs.Sets.{State}
+use Rattle.models.proofs.Truth.{and_in, and_left, and_right, or_left, or_right, or_out, not_in, either, or_assoc, never}
 use Rattle.models.proofs.Members.{every_within}
 use Rattle.models.proofs.Places.{Headed}
 use Rattle.models.proofs.Judging.{Ready, holds_held, ready_out, safe_rule, unblocked, unblocked_ready, unblocked_free, blocked_in, ruled_in}
 use Rattle.models.proofs.Lasting.{Grows, lasts, grows}
 use Rattle.stamps.specs.Orders.{IsLawful, Tests}
+use Rattle.std.specs.Bool.{IsTrue}
+use Rattle.std.proofs.lemmas.Bool.{eqb-true}
+use Rattle.std.specs.List.{list_all, list_any}
 
-module _ {S : Type 0} (not_after : S → S → Bool) (m : Meaning S) where
+module _ {S : Type 0} (tests : Tests S) (m : Meaning S) where
   -- X has the head of each rule whose positives it has and whose negatives are all ruled out
   abbrev pub Obeys : State → Set → Type 0
   Obeys s X =
-      (k : ℕ) (r : Rule) → rule_at m k ≡ Some r → T (every X r.positives) → T (every (ruled_out_in tests m s) r.negatives) → T (X r.head)
+      (k : ℕ) (r : Rule) → rule_at m k ≡ Some r → IsTrue (list_all X r.positives) → IsTrue (list_all (ruled_out tests m s) r.negatives) → IsTrue (X r.head)
 
   -- what is held comes from the fed readings by rules whose negatives are ruled out
   abbrev pub Grounded : State → Set → Type 0
   Grounded s fed = (X : Set) → Within fed X → Obeys s X → Within s.held X
 
 -- what every state of a run keeps: open atoms and fed ones are readings, the fed ones are held, and what is held is grounded
-pub record Founded {S : Type 0} (not_after : S → S → Bool) (m : Meaning S) (s : State) (fed : Set) : Type 0 where
+pub record Founded {S : Type 0} (tests : Tests S) (m : Meaning S) (s : State) (fed : Set) : Type 0 where
   pub opens : ReadingsOf m s.still_open
   pub readings : ReadingsOf m fed
   pub fed_held : Within fed s.held
@@ -35,83 +38,83 @@ pub record Founded {S : Type 0} (not_after : S → S → Bool) (m : Meaning S) (
 
 -- each reading is still open, fed or closed
 abbrev pub Covered : {S : Type 0} → Meaning S → State → Set → Set → Type 0
-Covered m s fed closed = (a : ℕ) → T (is_reading m a) → T (s.still_open a) ⊎ (T (fed a) ⊎ T (closed a))
+Covered m s fed closed = (a : ℕ) → IsTrue (is_reading m a) → IsTrue (s.still_open a) ⊎ (IsTrue (fed a) ⊎ IsTrue (closed a))
 
 -- where none of a list is held and nothing due or open is not after one of it, each of it is ruled out
-each_ruled : {S : Type 0} (not_after : S → S → Bool) (m : Meaning S) (s : State) (ns : List ℕ) → (T (some (holds m s.held) ns) → ⊥) →
-    ((b : ℕ) → T (pending m s.held s.still_open b) → T (some (relates tests.not_after m b) ns) → ⊥) → T (every (ruled_out_in tests m s) ns)
-each_ruled tests m s [] f g = tt
+each_ruled : {S : Type 0} (tests : Tests S) (m : Meaning S) (s : State) (ns : List ℕ) → (IsTrue (list_any (holds m s) ns) → ⊥) →
+    ((b : ℕ) → IsTrue (pending m s b) → IsTrue (list_any (relates tests.not_after m b) ns) → ⊥) → IsTrue (list_all (ruled_out tests m s) ns)
+each_ruled tests m s [] f g = refl
 each_ruled tests m s (n ∷ ns) f g =
-    and_in (ruled_out_in tests m s n) (every (ruled_out_in tests m s) ns)
-    (ruled_in m s.held s.still_open tests n
-    (λ h. f (or_left (holds m s.held n) (some (holds m s.held) ns) h))
-    (λ b p r. g b p (or_left (relates tests.not_after m b n) (some (relates tests.not_after m b) ns) r)))
+    and_in (ruled_out tests m s n) (list_all (ruled_out tests m s) ns)
+    (ruled_in m s tests n
+    (λ h. f (or_left (holds m s n) (list_any (holds m s) ns) h))
+    (λ b p r. g b p (or_left (relates tests.not_after m b n) (list_any (relates tests.not_after m b) ns) r)))
     (each_ruled tests m s ns
-    (λ h. f (or_right (holds m s.held n) (some (holds m s.held) ns) h))
-    (λ b p r. g b p (or_right (relates tests.not_after m b n) (some (relates tests.not_after m b) ns) r)))
+    (λ h. f (or_right (holds m s n) (list_any (holds m s) ns) h))
+    (λ b p r. g b p (or_right (relates tests.not_after m b n) (list_any (relates tests.not_after m b) ns) r)))
 
-module _ {S : Type 0} (not_after : S → S → Bool) (m : Meaning S) (s : State) where
+module _ {S : Type 0} (tests : Tests S) (m : Meaning S) (s : State) where
   -- the negatives of a ready rule without a blocker are ruled out
-  negatives_ruled : (r : Rule) → T (unblocked m s.held s.still_open tests r) → T (every (ruled_out_in tests m s) r.negatives)
+  negatives_ruled : (r : Rule) → IsTrue (unblocked m s tests r) → IsTrue (list_all (ruled_out tests m s) r.negatives)
   negatives_ruled r u =
       each_ruled tests m s r.negatives
-      (ready_out m s.held r (unblocked_ready m s.held s.still_open tests r u)).negatives
-      (λ b p t. unblocked_free m s.held s.still_open tests r u (blocked_in m s.held s.still_open tests r b p t))
+      (ready_out m s r (unblocked_ready m s tests r u)).negatives
+      (λ b p t. unblocked_free m s tests r u (blocked_in m s tests r b p t))
 
   -- a safe atom is in every set that obeys and has what is held
-  safe_obeys : (X : Set) → Obeys tests m s X → Within s.held X → (a : ℕ) → T (safe tests m s.held s.still_open a) → T (X a)
+  safe_obeys : (X : Set) → Obeys tests m s X → Within s.held X → (a : ℕ) → IsTrue (safe tests m s a) → IsTrue (X a)
   safe_obeys X obeys has a t =
-      let h : Headed m a (λ r. T (unblocked m s.held s.still_open tests r)) = safe_rule m s.held s.still_open tests a t in
-      let full : Ready m s.held h.rule = ready_out m s.held h.rule (unblocked_ready m s.held s.still_open tests h.rule h.so) in
-      subst (λ (b : ℕ). T (X b)) h.heads
+      let h : Headed m a (λ r. IsTrue (unblocked m s tests r)) = safe_rule m s tests a t in
+      let full : Ready m s h.rule = ready_out m s h.rule (unblocked_ready m s tests h.rule h.so) in
+      subst (λ (b : ℕ). IsTrue (X b)) h.heads
       (obeys h.number h.rule h.is
-      (every_within (holds m s.held) X (λ b k. has b (holds_held m s.held b k)) h.rule.positives full.positives)
+      (every_within (holds m s) X (λ b k. has b (holds_held m s b k)) h.rule.positives full.positives)
       (negatives_ruled h.rule h.so))
 
   -- a later state, in which only fed and safe atoms are newly held, is grounded too
-  pub grounded_more : (t : State) (fed more : Set) → ((a : ℕ) → T (ruled_out_in tests m s a) → T (ruled_out_in tests m t a)) → Within fed more →
-      ((a : ℕ) → T (t.held a) → T (s.held a) ⊎ (T (more a) ⊎ T (safe tests m s.held s.still_open a))) →
+  pub grounded_more : (t : State) (fed more : Set) → ((a : ℕ) → IsTrue (ruled_out tests m s a) → IsTrue (ruled_out tests m t a)) → Within fed more →
+      ((a : ℕ) → IsTrue (t.held a) → IsTrue (s.held a) ⊎ (IsTrue (more a) ⊎ IsTrue (safe tests m s a))) →
       Grounded tests m s fed → Grounded tests m t more
   grounded_more t fed more last within fresh grounded X has obeys a h =
       ⊎_elim (old a) (⊎_elim (has a) (safe_obeys X obeyed old a)) (fresh a h)
     where
       obeyed : Obeys tests m s X
-      obeyed k r e ps ns = obeys k r e ps (every_within (ruled_out_in tests m s) (ruled_out_in tests m t) last r.negatives ns)
+      obeyed k r e ps ns = obeys k r e ps (every_within (ruled_out tests m s) (ruled_out tests m t) last r.negatives ns)
 
       old : Within s.held X
       old = grounded X (λ b f. has b (within b f)) obeyed
 
 -- what a move does to the sets
-module _ {S : Type 0} (not_after : S → S → Bool) (m : Meaning S) (s : State) where
-  pub fed_open : (x : Move) → T (may tests m s x) → (a : ℕ) → T (feeds x a) → T (s.still_open a)
-  fed_open (feed x) t a f = subst (λ (b : ℕ). T (s.still_open b)) (eqb→eq x a f) t
-  fed_open (close x) t a f = absurd f
-  fed_open (take x) t a f = absurd f
-  fed_open sweep t a f = absurd f
+module _ {S : Type 0} (tests : Tests S) (m : Meaning S) (s : State) where
+  pub fed_open : (x : Move) → IsTrue (may tests m s x) → (a : ℕ) → IsTrue (feeds x a) → IsTrue (s.still_open a)
+  fed_open (feed x) t a f = subst (λ (b : ℕ). IsTrue (s.still_open b)) (eqb-true x a f) t
+  fed_open (close x) t a f = never f
+  fed_open (take x) t a f = never f
+  fed_open sweep t a f = never f
 
-  fed_held_lem : (x : Move) → (a : ℕ) → T (feeds x a) → T ((after tests m s x).held a)
+  fed_held_lem : (x : Move) → (a : ℕ) → IsTrue (feeds x a) → IsTrue ((after tests m s x).held a)
   fed_held_lem (feed x) a f = or_right (s.held a) (eqb x a) f
-  fed_held_lem (close x) a f = absurd f
-  fed_held_lem (take x) a f = absurd f
-  fed_held_lem sweep a f = absurd f
+  fed_held_lem (close x) a f = never f
+  fed_held_lem (take x) a f = never f
+  fed_held_lem sweep a f = never f
 
-  left_open : (x : ℕ) (a : ℕ) → T (s.still_open a) → T (s.still_open a && not (eqb x a)) ⊎ T (eqb x a)
+  left_open : (x : ℕ) (a : ℕ) → IsTrue (s.still_open a) → IsTrue (s.still_open a && not (eqb x a)) ⊎ IsTrue (eqb x a)
   left_open x a o = ⊎_elim inr (λ f. inl (and_in (s.still_open a) (not (eqb x a)) o (not_in (eqb x a) f))) (either (eqb x a))
 
-  pub open_goes : (x : Move) → (a : ℕ) → T (s.still_open a) → T ((after tests m s x).still_open a) ⊎ (T (feeds x a) ⊎ T (closes x a))
+  pub open_goes : (x : Move) → (a : ℕ) → IsTrue (s.still_open a) → IsTrue ((after tests m s x).still_open a) ⊎ (IsTrue (feeds x a) ⊎ IsTrue (closes x a))
   open_goes (feed x) a o = ⊎_elim inl (λ e. inr (inl e)) (left_open x a o)
   open_goes (close x) a o = ⊎_elim inl (λ e. inr (inr e)) (left_open x a o)
   open_goes (take x) a o = inl o
   open_goes sweep a o = inl o
 
-  held_from : (x : Move) → T (may tests m s x) → (a : ℕ) → T ((after tests m s x).held a) → T (s.held a) ⊎ (T (feeds x a) ⊎ T (safe tests m s.held s.still_open a))
+  held_from : (x : Move) → IsTrue (may tests m s x) → (a : ℕ) → IsTrue ((after tests m s x).held a) → IsTrue (s.held a) ⊎ (IsTrue (feeds x a) ⊎ IsTrue (safe tests m s a))
   held_from (feed x) t a h = ⊎_elim inl (λ e. inr (inl e)) (or_out (s.held a) (eqb x a) h)
   held_from (close x) t a h = inl h
   held_from (take x) t a h =
       ⊎_elim inl
-      (λ e. inr (inr (subst (λ (b : ℕ). T (safe tests m s.held s.still_open b)) (eqb→eq x a e) t)))
+      (λ e. inr (inr (subst (λ (b : ℕ). IsTrue (safe tests m s b)) (eqb-true x a e) t)))
       (or_out (s.held a) (eqb x a) h)
-  held_from sweep t a h = ⊎_elim inl (λ e. inr (inr e)) (or_out (s.held a) (safe tests m s.held s.still_open a) h)
+  held_from sweep t a h = ⊎_elim inl (λ e. inr (inr e)) (or_out (s.held a) (safe tests m s a) h)
 
 -- one set or the other
 abbrev pub union : Set → Set → Set
@@ -121,7 +124,7 @@ union_assoc : (X Y Z : Set) → union (union X Y) Z ≡ union X (union Y Z)
 union_assoc X Y Z = fun_ext (λ a. or_assoc (X a) (Y a) (Z a))
 
 module _ {S : Type 0} {tests : Tests S} (laws : IsLawful tests) {m : Meaning S} (sound : Sound tests m) where
-  founded_move : (s : State) (fed : Set) (x : Move) → T (may tests m s x) → Founded tests m s fed → Founded tests m (after tests m s x) (union fed (feeds x))
+  founded_move : (s : State) (fed : Set) (x : Move) → IsTrue (may tests m s x) → Founded tests m s fed → Founded tests m (after tests m s x) (union fed (feeds x))
   founded_move s fed x t f = record {
     opens = λ a o. f.opens a (step.fewer a o);
     readings = λ a h. ⊎_elim (f.readings a) (λ e. f.opens a (fed_open tests m s x t a e)) (or_out (fed a) (feeds x a) h);
@@ -136,7 +139,7 @@ module _ {S : Type 0} {tests : Tests S} (laws : IsLawful tests) {m : Meaning S} 
       step : Grows m s (after tests m s x)
       step = grows tests m s x t
 
-  pub founded_all : (s : State) (fed : Set) (xs : List Move) → T (may_all tests m s xs) → Founded tests m s fed → Founded tests m (after_all tests m s xs) (union fed (fed_by xs))
+  pub founded_all : (s : State) (fed : Set) (xs : List Move) → IsTrue (may_all tests m s xs) → Founded tests m s fed → Founded tests m (after_all tests m s xs) (union fed (fed_by xs))
   founded_all s fed [] t f = subst (Founded tests m s) (fun_ext (λ a. or_false (fed a))) f
     where
       or_false : (x : Bool) → x ≡ (x || false)
@@ -150,8 +153,8 @@ module _ {S : Type 0} {tests : Tests S} (laws : IsLawful tests) {m : Meaning S} 
 
   -- the start is founded, with nothing fed
   pub founded_start : Founded tests m (start m) none
-  founded_start = record { opens = λ a o. o; readings = λ a h. absurd h; fed_held = λ a h. absurd h; grounded = λ X has obeys a h. absurd h }
+  founded_start = record { opens = λ a o. o; readings = λ a h. never h; fed_held = λ a h. never h; grounded = λ X has obeys a h. never h }
 
   -- every state of a run is founded on what the run fed
-  pub founded_run : (xs : List Move) → T (may_all tests m (start m) xs) → Founded tests m (reached tests m xs) (fed_by xs)
+  pub founded_run : (xs : List Move) → IsTrue (may_all tests m (start m) xs) → Founded tests m (reached tests m xs) (fed_by xs)
   founded_run xs t = founded_all (start m) none xs t founded_start

@@ -1,132 +1,121 @@
 -- Each verdict as the facts that it stands for, and back.
-use Rattle.std.proofs.Common.{ℕ, ◌<◌, Bool, not, ◌&&◌, T, ◌⊎◌, length}
+use Rattle.std.proofs.Common.{ℕ, Bool, not, ◌&&◌, ◌⊎◌, length, arith}
 use Rattle.books.specs.Meaning.{Rule, Meaning}
 use Rattle.books.specs.Judged.{relates}
-use Rattle.models.specs.Sets.{Set, Within, every, some}
-use Rattle.models.specs.Verdicts.{in_book, is_derived, holds, heads_some, ready, due, pending, blocks, blocked, safe, awaited, ruled_out}
-use Rattle.models.proofs.Truth.{and_in, and_left, and_right, or_left, or_right, or_out, not_in, not_out}
+use Rattle.models.specs.Sets.{State, Within}
+use Rattle.models.specs.Verdicts.{in_book, is_derived, holds, ready, due, pending, blocks, blocked, safe, awaited, ruled_out}
+use Rattle.models.proofs.Truth.{or_out, false_in}
 use Rattle.models.proofs.Members.{some_out, below_in, below_out}
 use Rattle.models.proofs.Places.{Headed, place, related_in_book, headed_in, headed_out}
+use Rattle.std.specs.Bool.{IsTrue}
+use Rattle.std.proofs.Common.{arith}
+use Rattle.std.proofs.lemmas.Bool.{false≢true}
+use Rattle.models.proofs.Truth.{false_in}
+use Rattle.stamps.specs.Orders.{Tests}
+use Rattle.std.specs.List.{list_all, list_any}
 
-pub record Ready {S : Type 0} (m : Meaning S) (held : Set) (r : Rule) : Type 0 where
-  pub derived : T (is_derived m r.head)
-  pub positives : T (every (holds m held) r.positives)
-  pub negatives : T (some (holds m held) r.negatives) → ⊥
+pub record Ready {S : Type 0} (m : Meaning S) (s : State) (r : Rule) : Type 0 where
+  pub derived : IsTrue (is_derived m r.head)
+  pub positives : IsTrue (list_all (holds m s) r.positives)
+  pub negatives : IsTrue (list_any (holds m s) r.negatives) → ⊥
 
 module _ {S : Type 0} (m : Meaning S) where
-  pub holds_in : (held : Set) (a : ℕ) → T (in_book m a) → T (held a) → T (holds m held a)
-  holds_in held a = and_in (in_book m a) (held a)
+  pub holds_in : (s : State) (a : ℕ) → IsTrue (in_book m a) → IsTrue (s.held a) → IsTrue (holds m s a)
+  holds_in s a p q = grind arith
 
-  pub holds_there : (held : Set) (a : ℕ) → T (holds m held a) → T (in_book m a)
-  holds_there held a = and_left (in_book m a) (held a)
+  pub holds_there : (s : State) (a : ℕ) → IsTrue (holds m s a) → IsTrue (in_book m a)
+  holds_there s a t = grind arith
 
-  pub holds_held : (held : Set) (a : ℕ) → T (holds m held a) → T (held a)
-  holds_held held a = and_right (in_book m a) (held a)
+  pub holds_held : (s : State) (a : ℕ) → IsTrue (holds m s a) → IsTrue (s.held a)
+  holds_held s a t = grind arith
 
-  pub holds_within : (held more : Set) → Within held more → Within (holds m held) (holds m more)
-  holds_within held more f a t = holds_in more a (holds_there held a t) (f a (holds_held held a t))
+  pub holds_within : (s t : State) → Within s.held t.held → Within (holds m s) (holds m t)
+  holds_within s t f a h = holds_in t a (holds_there s a h) (f a (holds_held s a h))
 
-  pub ready_out : (held : Set) (r : Rule) → T (ready m held r) → Ready m held r
+  pub ready_out : (s : State) (r : Rule) → IsTrue (ready m s r) → Ready m s r
   unfolding ready
-  ready_out held r t =
-      let d = is_derived m r.head in let p = every (holds m held) r.positives in let n = some (holds m held) r.negatives in
-      record {
-        derived = and_left d p (and_left (d && p) (not n) t);
-        positives = and_right d p (and_left (d && p) (not n) t);
-        negatives = not_out n (and_right (d && p) (not n) t);
-      }
+  ready_out s r t = record { derived = grind arith; positives = grind arith; negatives = λ n. false≢true (grind arith) }
 
-  pub ready_in : (held : Set) (r : Rule) → Ready m held r → T (ready m held r)
+  pub ready_in : (s : State) (r : Rule) → Ready m s r → IsTrue (ready m s r)
   unfolding ready
-  ready_in held r h =
-      let d = is_derived m r.head in let p = every (holds m held) r.positives in let n = some (holds m held) r.negatives in
-      and_in (d && p) (not n) (and_in d p h.derived h.positives) (not_in n h.negatives)
+  ready_in s r h = let none = false_in _ h.negatives in grind (arith, h.derived, h.positives)
 
-  pub due_unheld : (held : Set) (a : ℕ) → T (due m held a) → T (holds m held a) → ⊥
+  pub due_unheld : (s : State) (a : ℕ) → IsTrue (due m s a) → IsTrue (holds m s a) → ⊥
   unfolding due
-  due_unheld held a t = not_out (holds m held a) (and_left (not (holds m held a)) (heads_some m (ready m held) a) t)
+  due_unheld s a t h = false≢true (grind arith)
 
-  pub due_rule : (held : Set) (a : ℕ) → T (due m held a) → Headed m a (λ r. T (ready m held r))
+  pub due_rule : (s : State) (a : ℕ) → IsTrue (due m s a) → Headed m a (λ r. IsTrue (ready m s r))
   unfolding due
-  due_rule held a t =
-      headed_out m (ready m held) a (and_right (not (holds m held a)) (heads_some m (ready m held) a) t)
+  due_rule s a t = headed_out m (ready m s) a (grind arith)
 
-  pub due_in : (held : Set) (a : ℕ) → (T (holds m held a) → ⊥) → Headed m a (λ r. T (ready m held r)) → T (due m held a)
+  pub due_in : (s : State) (a : ℕ) → (IsTrue (holds m s a) → ⊥) → Headed m a (λ r. IsTrue (ready m s r)) → IsTrue (due m s a)
   unfolding due
-  due_in held a f h =
-      and_in (not (holds m held a)) (heads_some m (ready m held) a) (not_in (holds m held a) f)
-      (headed_in m (ready m held) a h)
+  due_in s a f h = let unheld = false_in (holds m s a) f in let heads = headed_in m (ready m s) a h in grind arith
 
-  module _ (held still_open : Set) where
-    pub pending_due : (a : ℕ) → T (due m held a) → T (pending m held still_open a)
+  module _ (s : State) where
+    pub pending_due : (a : ℕ) → IsTrue (due m s a) → IsTrue (pending m s a)
     unfolding pending
-    pending_due a = or_left (due m held a) (still_open a)
+    pending_due a t = grind arith
 
-    pub pending_open : (a : ℕ) → T (still_open a) → T (pending m held still_open a)
+    pub pending_open : (a : ℕ) → IsTrue (s.still_open a) → IsTrue (pending m s a)
     unfolding pending
-    pending_open a = or_right (due m held a) (still_open a)
+    pending_open a t = grind arith
 
-    pub pending_out : (a : ℕ) → T (pending m held still_open a) → T (due m held a) ⊎ T (still_open a)
+    pub pending_out : (a : ℕ) → IsTrue (pending m s a) → IsTrue (due m s a) ⊎ IsTrue (s.still_open a)
     unfolding pending
-    pending_out a = or_out (due m held a) (still_open a)
+    pending_out a = or_out (due m s a) (s.still_open a)
 
-    module _ (not_after : S → S → Bool) where
-      pub blocked_out : (r : Rule) → T (blocked tests m held still_open r) → (b : ℕ) × T (pending m held still_open b) × T (some (relates tests.not_after m b) r.negatives)
+    module _ (tests : Tests S) where
+      pub blocked_out : (r : Rule) → IsTrue (blocked tests m s r) → (b : ℕ) × IsTrue (pending m s b) × IsTrue (list_any (relates tests.not_after m b) r.negatives)
       unfolding blocked blocks
-      blocked_out r t =
-          let f : (b : ℕ) × (b < length m.atoms) × T (blocks tests m held still_open r b) = below_out (length m.atoms) (blocks tests m held still_open r) t in
-          let p = pending m held still_open f.0 in let s = some (relates tests.not_after m f.0) r.negatives in
-          (f.0, and_left p s f.2, and_right p s f.2)
+      blocked_out r t = let f = below_out (length m.atoms) (blocks tests m s r) t in let b = f.2 in (f.0, grind arith, grind arith)
 
-      pub blocked_in : (r : Rule) (b : ℕ) → T (pending m held still_open b) → T (some (relates tests.not_after m b) r.negatives) → T (blocked tests m held still_open r)
+      pub blocked_in : (r : Rule) (b : ℕ) → IsTrue (pending m s b) → IsTrue (list_any (relates tests.not_after m b) r.negatives) → IsTrue (blocked tests m s r)
       unfolding blocked blocks
-      blocked_in r b p s =
-          let n : (n : ℕ) × T (relates tests.not_after m b n) = some_out (relates tests.not_after m b) r.negatives s in
-          below_in (length m.atoms) (blocks tests m held still_open r) b (place m b (related_in_book m tests.not_after b n.0 n.1))
-          (and_in (pending m held still_open b) (some (relates tests.not_after m b) r.negatives) p s)
+      blocked_in r b p q =
+          let n = some_out (relates tests.not_after m b) r.negatives q in
+          below_in (length m.atoms) (blocks tests m s r) b (place m b (related_in_book m tests.not_after b n.0 n.1)) (grind arith)
 
       -- ready and without a blocker
       abbrev pub unblocked : Rule → Bool
-      unblocked r = ready m held r && not (blocked tests m held still_open r)
+      unblocked r = ready m s r && not (blocked tests m s r)
 
-      pub safe_due : (a : ℕ) → T (safe tests m held still_open a) → T (due m held a)
+      pub safe_due : (a : ℕ) → IsTrue (safe tests m s a) → IsTrue (due m s a)
       unfolding safe
-      safe_due a t = and_left (due m held a) (heads_some m unblocked a) t
+      safe_due a t = grind arith
 
-      pub safe_rule : (a : ℕ) → T (safe tests m held still_open a) → Headed m a (λ r. T (unblocked r))
+      pub safe_rule : (a : ℕ) → IsTrue (safe tests m s a) → Headed m a (λ r. IsTrue (unblocked r))
       unfolding safe
-      safe_rule a t = headed_out m unblocked a (and_right (due m held a) (heads_some m unblocked a) t)
+      safe_rule a t = headed_out m unblocked a (grind arith)
 
-      pub safe_in : (a : ℕ) → T (due m held a) → Headed m a (λ r. T (unblocked r)) → T (safe tests m held still_open a)
+      pub safe_in : (a : ℕ) → IsTrue (due m s a) → Headed m a (λ r. IsTrue (unblocked r)) → IsTrue (safe tests m s a)
       unfolding safe
-      safe_in a t h = and_in (due m held a) (heads_some m unblocked a) t (headed_in m unblocked a h)
+      safe_in a t h = let heads = headed_in m unblocked a h in grind arith
 
-      pub unblocked_ready : (r : Rule) → T (unblocked r) → T (ready m held r)
-      unblocked_ready r = and_left (ready m held r) (not (blocked tests m held still_open r))
+      pub unblocked_ready : (r : Rule) → IsTrue (unblocked r) → IsTrue (ready m s r)
+      unblocked_ready r t = grind arith
 
-      pub unblocked_free : (r : Rule) → T (unblocked r) → T (blocked tests m held still_open r) → ⊥
-      unblocked_free r t = not_out (blocked tests m held still_open r) (and_right (ready m held r) (not (blocked tests m held still_open r)) t)
+      pub unblocked_free : (r : Rule) → IsTrue (unblocked r) → IsTrue (blocked tests m s r) → ⊥
+      unblocked_free r t b = false≢true (grind arith)
 
-      pub unblocked_in : (r : Rule) → T (ready m held r) → (T (blocked tests m held still_open r) → ⊥) → T (unblocked r)
-      unblocked_in r t f = and_in (ready m held r) (not (blocked tests m held still_open r)) t (not_in (blocked tests m held still_open r) f)
+      pub unblocked_in : (r : Rule) → IsTrue (ready m s r) → (IsTrue (blocked tests m s r) → ⊥) → IsTrue (unblocked r)
+      unblocked_in r t f = let free = false_in (blocked tests m s r) f in grind arith
 
-      pub ruled_in : (a : ℕ) → (T (holds m held a) → ⊥) → ((b : ℕ) → T (pending m held still_open b) → T (relates tests.not_after m b a) → ⊥) → T (ruled_out tests m held still_open a)
+      pub ruled_in : (a : ℕ) → (IsTrue (holds m s a) → ⊥) → ((b : ℕ) → IsTrue (pending m s b) → IsTrue (relates tests.not_after m b a) → ⊥) → IsTrue (ruled_out tests m s a)
       unfolding ruled_out awaited
       ruled_in a f g =
-          and_in (not (holds m held a)) (not (awaited tests m held still_open a)) (not_in (holds m held a) f)
-          (not_in (awaited tests m held still_open a) (λ t.
-          let w : (b : ℕ) × (b < length m.atoms) × T (pending m held still_open b && relates tests.not_after m b a) = below_out (length m.atoms) (λ b. pending m held still_open b && relates tests.not_after m b a) t in
-          let p = pending m held still_open w.0 in let s = relates tests.not_after m w.0 a in
-          g w.0 (and_left p s w.2) (and_right p s w.2)))
+          let unheld = false_in (holds m s a) f in
+          let alone = false_in (awaited tests m s a) (λ t.
+          let w = below_out (length m.atoms) (λ b. pending m s b && relates tests.not_after m b a) t in let b = w.2 in
+          g w.0 (grind arith) (grind arith)) in
+          grind arith
 
-      pub ruled_unheld : (a : ℕ) → T (ruled_out tests m held still_open a) → T (holds m held a) → ⊥
+      pub ruled_unheld : (a : ℕ) → IsTrue (ruled_out tests m s a) → IsTrue (holds m s a) → ⊥
       unfolding ruled_out
-      ruled_unheld a t = not_out (holds m held a) (and_left (not (holds m held a)) (not (awaited tests m held still_open a)) t)
+      ruled_unheld a t h = false≢true (grind arith)
 
-      pub ruled_none : (a : ℕ) → T (ruled_out tests m held still_open a) → (b : ℕ) → T (pending m held still_open b) → T (relates tests.not_after m b a) → ⊥
+      pub ruled_none : (a : ℕ) → IsTrue (ruled_out tests m s a) → (b : ℕ) → IsTrue (pending m s b) → IsTrue (relates tests.not_after m b a) → ⊥
       unfolding ruled_out awaited
-      ruled_none a t b p s =
-          not_out (awaited tests m held still_open a) (and_right (not (holds m held a)) (not (awaited tests m held still_open a)) t)
-          (below_in (length m.atoms) (λ b. pending m held still_open b && relates tests.not_after m b a) b
-          (place m b (related_in_book m tests.not_after b a s))
-          (and_in (pending m held still_open b) (relates tests.not_after m b a) p s))
+      ruled_none a t b p q =
+          let some = below_in (length m.atoms) (λ b. pending m s b && relates tests.not_after m b a) b (place m b (related_in_book m tests.not_after b a q)) (grind arith) in
+          false≢true (grind arith)

@@ -1,14 +1,14 @@
 -- With nothing due the held set is the stable model of the fed readings, and every possible outcome can be played to such an end.
-use Rattle.std.proofs.Common.{◌≡◌, ℕ, zero, suc, Bool, true, false, ◌&&◌, ◌||◌, T, List, [], ◌∷◌, length, sym, refl, ◌∙◌, subst, inl, inr, ⊎_elim}
+use Rattle.std.proofs.Common.{◌≡◌, ℕ, zero, suc, Bool, true, false, ◌&&◌, ◌||◌, List, [], ◌∷◌, length, sym, refl, ◌∙◌, subst, inl, inr, ⊎_elim}
 use mathlib.Core.Path.{fun_ext}
 use Rattle.books.specs.Meaning.{Meaning}
 use Rattle.books.specs.Judged.{Sound}
 use Rattle.models.specs.Sets.{Set, Within, Same, none}
-use Rattle.models.specs.Orders.{Lawful}
-use Rattle.models.specs.Verdicts.{in_book, holds, due}
+use Rattle.models.specs.Verdicts.{in_book, holds, due, ruled_out}
 use Rattle.models.specs.Stability.{ReadingsOf, Closed, Stable}
-use Rattle.models.specs.Moves.{State, Move, start, after, after_all, may_all, reached, sweeps, feeds, closes, fed_by, closed_by, Outcome, decided, NothingDue, ruled_out_in, model_of}
-use Rattle.models.proofs.Truth.{and_in, and_right, or_left, or_right, or_out, false_in, false_out, stands, or_assoc}
+use Rattle.models.specs.Moves.{Move, start, after, after_all, may_all, reached, sweeps, feeds, closes, fed_by, closed_by, Outcome, decided, NothingDue, model_of}
+use Rattle.models.specs.Sets.{State}
+use Rattle.models.proofs.Truth.{and_in, and_right, or_left, or_right, or_out, false_in, false_out, stands, or_assoc, never}
 use Rattle.models.proofs.Members.{every_within, none_of, some_within}
 use Rattle.models.proofs.Places.{reading_in_book, derived_in_book}
 use Rattle.models.proofs.Reducts.{closed_in, closed_out}
@@ -18,6 +18,7 @@ use Rattle.models.proofs.Lasting.{lasts, lasts_all, kept_all, grows_decided}
 use Rattle.models.proofs.Founding.{Founded, Covered, union, grounded_more, open_goes, founded_all, founded_start, founded_run}
 use Rattle.models.proofs.Progress.{may_sweep, sweeping_ends_lem}
 use Rattle.stamps.specs.Orders.{IsLawful, Tests}
+use Rattle.std.specs.Bool.{IsTrue}
 
 module _ {S : Type 0} {tests : Tests S} (laws : IsLawful tests) {m : Meaning S} (sound : Sound tests m) where
   -- what is held is in the book
@@ -27,24 +28,24 @@ module _ {S : Type 0} {tests : Tests S} (laws : IsLawful tests) {m : Meaning S} 
       (λ k r e ps ns. derived_in_book m r.head (head_derived laws sound k r e))
 
   -- what is ruled out is not held
-  pub out_unheld : (s : State) (fed : Set) → Founded tests m s fed → (a : ℕ) → T (ruled_out_in tests m s a) → T (s.held a) → ⊥
-  out_unheld s fed f a out h = ruled_unheld m s.held s.still_open tests a out (holds_in m s.held a (held_in_book_lem s fed f a h) h)
+  pub out_unheld : (s : State) (fed : Set) → Founded tests m s fed → (a : ℕ) → IsTrue (ruled_out tests m s a) → IsTrue (s.held a) → ⊥
+  out_unheld s fed f a out h = ruled_unheld m s tests a out (holds_in m s a (held_in_book_lem s fed f a h) h)
 
   -- with nothing due, what is held is closed under what it leaves of the rules
   held_closed : (s : State) (fed : Set) → Founded tests m s fed → NothingDue m s → Closed m s.held s.held
   held_closed s fed f idle = closed_in m s.held s.held (λ k r e ps ns. stands (s.held r.head) (λ unheld.
-      false_out (due m s.held r.head) (idle r.head)
-      (due_in m s.held r.head
-      (λ h. unheld (holds_held m s.held r.head h))
+      false_out (due m s r.head) (idle r.head)
+      (due_in m s r.head
+      (λ h. unheld (holds_held m s r.head h))
       (record {
         number = k;
         rule = r;
         is = e;
         heads = refl;
-        so = ready_in m s.held r (record {
+        so = ready_in m s r (record {
           derived = head_derived laws sound k r e;
-          positives = every_within s.held (holds m s.held) (λ a h. holds_in m s.held a (held_in_book_lem s fed f a h) h) r.positives ps;
-          negatives = λ n. ns (some_within (holds m s.held) s.held (holds_held m s.held) r.negatives n);
+          positives = every_within s.held (holds m s) (λ a h. holds_in m s a (held_in_book_lem s fed f a h) h) r.positives ps;
+          negatives = λ n. ns (some_within (holds m s) s.held (holds_held m s) r.negatives n);
         });
       }))))
 
@@ -54,7 +55,7 @@ module _ {S : Type 0} {tests : Tests S} (laws : IsLawful tests) {m : Meaning S} 
     has = f.fed_held;
     closed = held_closed s fed f idle;
     least = λ X has closed. f.grounded X has (λ k r e ps ns.
-        closed_out m s.held X closed k r e ps (none_of (ruled_out_in tests m s) s.held (out_unheld s fed f) r.negatives ns));
+        closed_out m s.held X closed k r e ps (none_of (ruled_out tests m s) s.held (out_unheld s fed f) r.negatives ns));
   }
 
   covered_all : (s : State) (fed closed : Set) (xs : List Move) → Covered m s fed closed → Covered m (after_all tests m s xs) (union fed (fed_by xs)) (union closed (closed_by xs))
@@ -63,8 +64,8 @@ module _ {S : Type 0} {tests : Tests S} (laws : IsLawful tests) {m : Meaning S} 
   covered_all s fed closed (x ∷ xs) c a r =
       ⊎_elim inl
       (λ w. inr (⊎_elim
-      (λ h. inl (subst T (or_assoc (fed a) (feeds x a) (fed_by xs a)) h))
-      (λ h. inr (subst T (or_assoc (closed a) (closes x a) (closed_by xs a)) h))
+      (λ h. inl (subst IsTrue (or_assoc (fed a) (feeds x a) (fed_by xs a)) h))
+      (λ h. inr (subst IsTrue (or_assoc (closed a) (closes x a) (closed_by xs a)) h))
       w))
       (covered_all (after tests m s x) (union fed (feeds x)) (union closed (closes x)) xs step a r)
     where
@@ -83,9 +84,9 @@ module _ {S : Type 0} {tests : Tests S} (laws : IsLawful tests) {m : Meaning S} 
 
   -- deciding what is open by a possible outcome gives a state founded on that outcome
   founded_decided : (s : State) (fed closed R : Set) → Founded tests m s fed → Covered m s fed closed → ReadingsOf m R → Within fed R →
-      ((a : ℕ) → T (closed a) → R a ≡ false) → Founded tests m (decided R s) R
+      ((a : ℕ) → IsTrue (closed a) → R a ≡ false) → Founded tests m (decided R s) R
   founded_decided s fed closed R f c readings all none-closed = record {
-    opens = λ a o. absurd o;
+    opens = λ a o. never o;
     readings = readings;
     fed_held = λ a h. ⊎_elim
         (λ o. or_right (s.held a) (s.still_open a && R a) (and_in (s.still_open a) (R a) o h))
@@ -124,9 +125,9 @@ module _ {S : Type 0} {tests : Tests S} (laws : IsLawful tests) {m : Meaning S} 
   pub model_stable : (R : Set) → ReadingsOf m R → Stable m R (model_of tests m R)
   model_stable R readings =
       stable_played (start m) R
-      (founded_decided (start m) none none R (founded_start laws sound) (λ a r. inl r) readings (λ a h. absurd h) (λ a h. absurd h))
+      (founded_decided (start m) none none R (founded_start laws sound) (λ a r. inl r) readings (λ a h. never h) (λ a h. never h))
 
-  module _ (xs : List Move) (run : T (may_all tests m (start m) xs)) (R M : Set) (outcome : Outcome m xs R) (stable : Stable m R M) where
+  module _ (xs : List Move) (run : IsTrue (may_all tests m (start m) xs)) (R M : Set) (outcome : Outcome m xs R) (stable : Stable m R M) where
     -- where the run stands
     abbrev pub now : State
     now = reached tests m xs
@@ -139,17 +140,17 @@ module _ {S : Type 0} {tests : Tests S} (laws : IsLawful tests) {m : Meaning S} 
     is_played : Same M (played now R).held
     is_played = unique laws sound R M (played now R).held outcome.readings_only stable (stable_played now R decided_now)
 
-    sweeping : T (may_all tests m (decided R now) (sweeps (length m.atoms)))
+    sweeping : IsTrue (may_all tests m (decided R now) (sweeps (length m.atoms)))
     sweeping = may_sweep tests m (length m.atoms) (decided R now)
 
     -- what is held is in the outcome's model
     pub held_in_model : Within now.held M
     held_in_model a h =
-        subst T (sym (is_played a))
+        subst IsTrue (sym (is_played a))
         (kept_all laws sound (decided R now) (sweeps (length m.atoms)) sweeping a ((grows_decided tests m now R).kept a h))
 
     -- what is ruled out is not in it
-    pub out_of_model : (a : ℕ) → T (ruled_out_in tests m now a) → M a ≡ false
+    pub out_of_model : (a : ℕ) → IsTrue (ruled_out tests m now a) → M a ≡ false
     out_of_model a out =
         is_played a ∙
         false_in ((played now R).held a)

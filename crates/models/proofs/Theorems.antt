@@ -1,10 +1,10 @@
 -- The theorems, for every order that keeps the laws.
-use Rattle.std.proofs.Common.{Bool, T, sym, subst}
+use Rattle.std.proofs.Common.{sym, subst}
 use mathlib.Core.Path.{fun_ext}
 use Rattle.models.specs.Sets.{Set}
-use Rattle.models.specs.Orders.{Lawful}
 use Rattle.models.specs.Stability.{Stable}
-use Rattle.models.specs.Moves.{State, start, reached, fed_by, ruled_out_in, model_of}
+use Rattle.models.specs.Moves.{start, reached, fed_by, model_of}
+use Rattle.models.specs.Sets.{State}
 use Rattle.models.specs.Theorems.{EachHasOneModel, RuledOutLasts, OpenMayCome, NothingTakenBack, DueGivesSafe, SweepingEnds, EndIsModel}
 use Rattle.models.proofs.Uniqueness.{unique}
 use Rattle.models.proofs.Lasting.{lasts_all}
@@ -13,7 +13,9 @@ use Rattle.models.proofs.Keeping.{may_come}
 use Rattle.models.proofs.Progress as progress
 use Rattle.models.proofs.Settling.{model_stable, stable_end, held_in_model, out_of_model}
 use Rattle.models.proofs.Sequences.{after_all-append, may_then}
+use Rattle.models.specs.Verdicts.{ruled_out}
 use Rattle.stamps.specs.Orders.{IsLawful, Tests}
+use Rattle.std.specs.Bool.{IsTrue}
 
 module _ {S : Type 0} {tests : Tests S} (laws : IsLawful tests) where
   pub each_has_one_model_lem : EachHasOneModel tests
@@ -24,7 +26,7 @@ module _ {S : Type 0} {tests : Tests S} (laws : IsLawful tests) where
 
   pub ruled_out_lasts_lem : RuledOutLasts tests
   ruled_out_lasts_lem m sound moves more run a out =
-      subst (λ (s : State). T (ruled_out_in tests m s a)) (sym (after_all-append tests m (start m) moves more))
+      subst (λ (s : State). IsTrue (ruled_out tests m s a)) (sym (after_all-append tests m (start m) moves more))
       (lasts_all laws sound (reached tests m moves) more (may_then tests m (start m) moves more run) a out)
 
   pub nothing_taken_back : NothingTakenBack tests

@@ -1,61 +1,60 @@
 -- Tests that are true or not, in every way that the arguments need them.
-use Rattle.std.proofs.Common.{◌≡◌, Bool, true, false, not, ◌&&◌, ◌||◌, T, ◌⊎◌, refl, subst, inl, inr}
+use Rattle.std.proofs.Common.{◌≡◌, Bool, true, false, not, ◌&&◌, ◌||◌, ◌⊎◌, refl, inl, inr, arith}
+use Rattle.std.specs.Bool.{IsTrue}
+use Rattle.std.proofs.lemmas.Bool.{false≢true}
 
-pub and_in : (x y : Bool) → T x → T y → T (x && y)
-and_in true y p q = q
-and_in false y p q = p
+-- a test that is false does not pass
+pub never : {A : Type 0} → IsTrue false → A
+never e = absurd (false≢true e)
 
-pub and_left : (x y : Bool) → T (x && y) → T x
-and_left true y p = tt
-and_left false y p = p
+pub and_in : (x y : Bool) → IsTrue x → IsTrue y → IsTrue (x && y)
+and_in x y p q = grind arith
 
-pub and_right : (x y : Bool) → T (x && y) → T y
-and_right true y p = p
-and_right false y p = absurd p
+pub and_left : (x y : Bool) → IsTrue (x && y) → IsTrue x
+and_left x y p = grind arith
 
-pub or_left : (x y : Bool) → T x → T (x || y)
-or_left true y p = tt
-or_left false y p = absurd p
+pub and_right : (x y : Bool) → IsTrue (x && y) → IsTrue y
+and_right x y p = grind arith
 
-pub or_right : (x y : Bool) → T y → T (x || y)
-or_right true y p = tt
-or_right false y p = p
+pub or_left : (x y : Bool) → IsTrue x → IsTrue (x || y)
+or_left x y p = grind arith
 
-pub or_out : (x y : Bool) → T (x || y) → T x ⊎ T y
-or_out true y p = inl tt
+pub or_right : (x y : Bool) → IsTrue y → IsTrue (x || y)
+or_right x y p = grind arith
+
+pub or_out : (x y : Bool) → IsTrue (x || y) → IsTrue x ⊎ IsTrue y
+or_out true y p = inl refl
 or_out false y p = inr p
 
-pub not_in : (x : Bool) → (T x → ⊥) → T (not x)
-not_in true f = f tt
-not_in false f = tt
+pub not_in : (x : Bool) → (IsTrue x → ⊥) → IsTrue (not x)
+not_in true f = absurd (f refl)
+not_in false f = refl
 
-pub not_out : (x : Bool) → T (not x) → T x → ⊥
-not_out true p q = p
-not_out false p q = q
+pub not_out : (x : Bool) → IsTrue (not x) → IsTrue x → ⊥
+not_out true p q = false≢true p
+not_out false p q = false≢true q
 
-pub false_in : (x : Bool) → (T x → ⊥) → x ≡ false
-false_in true f = absurd (f tt)
+pub false_in : (x : Bool) → (IsTrue x → ⊥) → x ≡ false
+false_in true f = absurd (f refl)
 false_in false f = refl
 
-pub false_out : (x : Bool) → x ≡ false → T x → ⊥
-false_out true e p = subst T e tt
-false_out false e p = p
+pub false_out : (x : Bool) → x ≡ false → IsTrue x → ⊥
+false_out x e p = false≢true (grind arith)
 
-pub either : (x : Bool) → T x ⊎ (T x → ⊥)
-either true = inl tt
-either false = inr (λ p. p)
+pub either : (x : Bool) → IsTrue x ⊎ (IsTrue x → ⊥)
+either true = inl refl
+either false = inr false≢true
 
 -- a test whose failing is impossible passes
-pub stands : (x : Bool) → ((T x → ⊥) → ⊥) → T x
-stands true f = tt
-stands false f = f (λ p. p)
+pub stands : (x : Bool) → ((IsTrue x → ⊥) → ⊥) → IsTrue x
+stands true f = refl
+stands false f = absurd (f false≢true)
 
-pub same : (x y : Bool) → (T x → T y) → (T y → T x) → x ≡ y
+pub same : (x y : Bool) → (IsTrue x → IsTrue y) → (IsTrue y → IsTrue x) → x ≡ y
 same true true f g = refl
-same true false f g = absurd (f tt)
-same false true f g = absurd (g tt)
+same true false f g = absurd (false≢true (f refl))
+same false true f g = absurd (false≢true (g refl))
 same false false f g = refl
 
 pub or_assoc : (x y z : Bool) → ((x || y) || z) ≡ (x || (y || z))
-or_assoc true y z = refl
-or_assoc false y z = refl
+or_assoc x y z = grind arith

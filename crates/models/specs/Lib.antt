@@ -1,5 +1,4 @@
 pub mod Sets
-pub mod Orders
 pub mod Verdicts
 pub mod Stability
 pub mod Moves

@@ -1,12 +1,14 @@
 -- Sets of atoms. A set is a test on numbers, so that membership is always decided.
-use Rattle.std.specs.Prelude.{◌≡◌, ℕ, zero, suc, Bool, true, false, not, ◌&&◌, ◌||◌, T, List, [], ◌∷◌, ◌==◌}
+use Rattle.std.specs.Prelude.{◌≡◌, ℕ, Bool, false, not, ◌&&◌, ◌||◌, ◌==◌}
+use Rattle.std.specs.Bool.{IsTrue}
+use Rattle.std.specs.List.{list_any, range_with_len}
 
 abbrev pub Set : Type 0
 Set = ℕ → Bool
 
 -- each atom of the first set is in the second
 abbrev pub Within : Set → Set → Type 0
-Within X Y = (a : ℕ) → T (X a) → T (Y a)
+Within X Y = (a : ℕ) → IsTrue (X a) → IsTrue (Y a)
 
 -- the two sets have the same atoms
 abbrev pub Same : Set → Set → Type 0
@@ -28,17 +30,11 @@ adding x X a = X a || x == a
 abbrev pub removing : ℕ → Set → Set
 removing x X a = X a && not (x == a)
 
--- every atom of the list is in the set
-abbrev pub every : Set → List ℕ → Bool
-every X [] = true
-every X (a ∷ rest) = X a && every X rest
-
--- some atom of the list is in the set
-abbrev pub some : Set → List ℕ → Bool
-some X [] = false
-some X (a ∷ rest) = X a || some X rest
-
 -- some number below n is in the set
 abbrev pub some_below : ℕ → Set → Bool
-some_below zero X = false
-some_below (suc n) X = X n || some_below n X
+some_below n X = list_any X (range_with_len 0 n)
+
+-- what is held, and what is still open
+pub record State : Type 0 where
+  pub held : Set
+  pub still_open : Set

@@ -1,13 +1,15 @@
 -- Stable models of a book: what remains of its rules once a set has judged their negatives, and the least set closed under that.
-use Rattle.std.specs.Prelude.{◌≡◌, ℕ, cond, T, [], Some, None, Option}
+use Rattle.std.specs.Prelude.{◌≡◌, ℕ, cond, [], Some, None, Option}
 use Rattle.std.specs.Option.{option_and_then}
 use Rattle.books.specs.Meaning.{Rule, Meaning, rule_at}
-use Rattle.models.specs.Sets.{Set, Within, every, some}
+use Rattle.models.specs.Sets.{Set, Within}
 use Rattle.models.specs.Verdicts.{is_reading}
+use Rattle.std.specs.Bool.{IsTrue}
+use Rattle.std.specs.List.{list_all, list_any}
 
 -- the rule without its negatives; struck where one of them is in M
 abbrev pub reduced : Set → Rule → Option Rule
-reduced M r = cond (some M r.negatives) None (Some (record { head = r.head; positives = r.positives; negatives = [] }))
+reduced M r = cond (list_any M r.negatives) None (Some (record { head = r.head; positives = r.positives; negatives = [] }))
 
 -- what remains of the rule of that number
 abbrev pub remaining : {S : Type 0} → Meaning S → Set → ℕ → Option Rule
@@ -15,7 +17,7 @@ remaining m M k = option_and_then (reduced M) (rule_at m k)
 
 -- X has the head of each remaining rule all of whose positives it has
 abbrev pub Closed : {S : Type 0} → Meaning S → Set → Set → Type 0
-Closed m M X = (k : ℕ) (r : Rule) → remaining m M k ≡ Some r → T (every X r.positives) → T (X r.head)
+Closed m M X = (k : ℕ) (r : Rule) → remaining m M k ≡ Some r → IsTrue (list_all X r.positives) → IsTrue (X r.head)
 
 -- each atom of the set is a reading of the book
 abbrev pub ReadingsOf : {S : Type 0} → Meaning S → Set → Type 0

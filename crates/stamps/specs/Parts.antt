@@ -1,5 +1,5 @@
 -- A route's mask against its aisles, and what `part_of` keeps.
-use Rattle.std.specs.Prelude.{◌≡◌, ℕ, zero, suc, ◌+◌, ◌^◌, ◌<◌, ◌≤◌, Bool, true, bit_and, ◌==◌, refl}
+use Rattle.std.specs.Prelude.{◌≡◌, ℕ, zero, suc, ◌+◌, ◌^◌, ◌<◌, ◌≤◌, Bool, bit_and, ◌==◌, refl}
 use Rattle.std.specs.Bool.{IsTrue}
 use Rattle.std.specs.Int.{bit_at}
 use Rattle.std.specs.List.{list_all, range_with_len}
@@ -8,7 +8,7 @@ use Rattle.std.proofs.lemmas.Nat.{and_le_l}
 use Rattle.std.proofs.lemmas.Nat.Bits.{bit_at_and, bit_at-lt, same_from_bits_below}
 use Rattle.std.proofs.lemmas.Bool.{cases_eq}
 use Rattle.std.proofs.lemmas.Bool.Decides.{nat_tests}
-use Rattle.stamps.specs.Aisles.{shares_aisle, part_of, proper_part}
+use Rattle.stamps.specs.Aisles.{shares_aisle, part_of}
 
 -- a test that n numbers from a on pass is passed by each of them
 from_all : (p : ℕ → Bool) (a n k : ℕ) → IsTrue (list_all p (range_with_len a n)) → a ≤ k → k < a + n → IsTrue (p k)
@@ -41,10 +41,10 @@ pub part_mask : (a b : ℕ) → a < 2 ^ 64 → b < 2 ^ 64 → part_of a b ≡ (b
 part_mask a b ha hb =
     let small = and_le_l a b in
     let equal : IsTrue (part_of a b) → bit_and a b ≡ a =
-      λ p. same_from_bits_below 64 (bit_and a b) a (omega arith) ha
-      (λ k l. let m = bit_at_and a b k in let s = part_out a b k p l in let x = bit_at-lt a k in let y = bit_at-lt b k in grind (arith, nat_tests)) in
+    λ p. same_from_bits_below 64 (bit_and a b) a (omega arith) ha
+    (λ k l. let m = bit_at_and a b k in let s = part_out a b k p l in let x = bit_at-lt a k in let y = bit_at-lt b k in grind (arith, nat_tests)) in
     let part : bit_and a b ≡ a → IsTrue (part_of a b) =
-      λ e. part_in a b (λ k l. let m = bit_at_and a b k in let s = ap (λ x. bit_at x k) e in let x = bit_at-lt a k in let y = bit_at-lt b k in grind (arith, nat_tests)) in
+    λ e. part_in a b (λ k l. let m = bit_at_and a b k in let s = ap (λ x. bit_at x k) e in let x = bit_at-lt a k in let y = bit_at-lt b k in grind (arith, nat_tests)) in
     grind (arith, nat_tests, equal, part)
 
 pub part_self : (a : ℕ) → IsTrue (part_of a a)

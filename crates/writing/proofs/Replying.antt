@@ -11,7 +11,8 @@ use Rattle.books.specs.declared.fault.ReadFault.TheVariants.{TooMany}
 use Rattle.books.specs.declared.fault.Refusal.{Refusal}
 use Rattle.text.specs.Bytes.{and_then, wrong_at}
 use Rattle.text.specs.Orders.{word_of, order_refused}
-use Rattle.writing.specs.Replies.{Replied, canonical_at, by_word, program_at, refusal_text, reply_text, tick_before, tick_not_after, route_before, route_not_after, then_before, then_not_after}
+use Rattle.writing.specs.Replies.{Replied, canonical_at, by_word, program_at, refusal_text, reply_text}
+use Rattle.stamps.specs.Kinds as kinds
 use Rattle.text.specs.Spelt.{tick_text, route_text, pair_text}
 use Rattle.text.specs.Stamps.{tick_at, route_at, pair_at, tick_word, route_word, then_word}
 use Rattle.text.specs.Written.{laid, Wrote}
@@ -43,9 +44,9 @@ module _ (text : List ℕ) (ticks routes pairs rules room : ℕ) where
   abbrev table : Option Word → Result (List ℕ) Fault
   table w =
       by_word w
-      (canonical_at tick_at tick_word tick_text tick_before tick_not_after text ticks rules room)
-      (canonical_at route_at route_word route_text route_before route_not_after text routes rules room)
-      (canonical_at pair_at then_word pair_text then_before then_not_after text pairs rules room)
+      (canonical_at tick_at tick_word tick_text kinds.ticks text ticks rules room)
+      (canonical_at route_at route_word route_text kinds.routes text routes rules room)
+      (canonical_at pair_at then_word pair_text kinds.pairs text pairs rules room)
       (wrong_at (order_refused text))
 
   pub program_long : 65536 < length text → Err (Reading (TooMany 0)) ≡ program_at text ticks routes pairs rules room

@@ -1,5 +1,5 @@
 -- What the program that reads, checks and writes a book answers.
-use Rattle.std.specs.Prelude.{◌≡◌, ℕ, ◌≤◌, Bool, cond, not, ◌&&◌, ◌||◌, List, ◌++◌, length, drop, Some, None, Ok, Err, codes, decimal, Option, Result, nat_le, nat_lt}
+use Rattle.std.specs.Prelude.{◌≡◌, ℕ, ◌≤◌, cond, List, ◌++◌, length, drop, Some, None, Ok, Err, codes, decimal, Option, Result, nat_lt}
 use Rattle.books.specs.Check.{book_fault, unless}
 use Rattle.books.specs.Meaning.{Meaning}
 use Rattle.books.specs.declared.fault.Fault.{Fault}
@@ -9,11 +9,8 @@ use Rattle.books.specs.declared.fault.Values.TheVariants.{One, RuleLiteral}
 use Rattle.books.specs.Faults.{refusal_of}
 use Rattle.books.specs.declared.fault.Fault.TheVariants.{Reading}
 use Rattle.books.specs.declared.fault.ReadFault.TheVariants.{TooMany}
-use Rattle.stamps.specs.Aisles.{part_of}
-use Rattle.stamps.specs.Levels.{level}
-use Rattle.stamps.specs.declared.tick.Tick.{Tick}
-use Rattle.stamps.specs.declared.route.Route.{Route}
-use Rattle.stamps.specs.declared.then.Then.{Then}
+use Rattle.stamps.specs.Kinds as kinds
+use Rattle.stamps.specs.Orders.{Tests}
 use Rattle.text.specs.Bytes.{and_then, wrong_at}
 use Rattle.text.specs.Orders.{word_of, order_refused}
 use Rattle.text.specs.Stamps.{tick_at, route_at, pair_at, tick_word, route_word, then_word}
@@ -23,7 +20,6 @@ use Rattle.text.specs.Forms.{closing}
 use Rattle.text.specs.Reads.{book_at, room_of}
 use Rattle.text.specs.Spelt.{book_text, space, tick_text, route_text, pair_text}
 use Rattle.writing.specs.Writes.{book_gap, write_answer}
-use Rattle.stamps.specs.Orders.{Tests}
 
 -- how a refusal begins
 abbrev pub no_opening : List ℕ
@@ -70,30 +66,6 @@ pub record Replied (found : Result (List ℕ) Fault) (answer : Result ℕ Fault)
   pub sheet : new ≡ sheet_with found old
   pub fits : FitsOn found (length old)
 
--- a tick is before a later one
-abbrev pub tick_before : Tick → Tick → Bool
-tick_before a b = nat_lt a.0 b.0
-
--- a tick is not after itself and later ones
-abbrev pub tick_not_after : Tick → Tick → Bool
-tick_not_after a b = nat_le a.0 b.0
-
--- a route is before those that have its aisles and more
-abbrev pub route_before : Route → Route → Bool
-route_before a b = part_of a.aisles b.aisles && not (part_of b.aisles a.aisles)
-
--- a route is not after those that have its aisles
-abbrev pub route_not_after : Route → Route → Bool
-route_not_after a b = part_of a.aisles b.aisles
-
--- first ticks decide, then the second ones
-abbrev pub then_before : Then Tick Tick → Then Tick Tick → Bool
-then_before a b = tick_before a.first b.first || (level tick_not_after a.first b.first && tick_before a.second b.second)
-
--- the same, with the last step not after
-abbrev pub then_not_after : Then Tick Tick → Then Tick Tick → Bool
-then_not_after a b = tick_before a.first b.first || (level tick_not_after a.first b.first && tick_not_after a.second b.second)
-
 -- the choice that a word has in a table
 abbrev pub by_word : {X : Type 0} → Option Word → X → X → X → X → X
 by_word (Some word.Tick) t r h n = t
@@ -106,9 +78,9 @@ unfoldable pub program_at : List ℕ → ℕ → ℕ → ℕ → ℕ → ℕ →
 program_at text ticks routes pairs rules room =
     cond (nat_lt 65536 (length text)) (Err (Reading (TooMany 0)))
     (by_word (word_of text)
-    (canonical_at tick_at tick_word tick_text tick_before tick_not_after text ticks rules room)
-    (canonical_at route_at route_word route_text route_before route_not_after text routes rules room)
-    (canonical_at pair_at then_word pair_text then_before then_not_after text pairs rules room)
+    (canonical_at tick_at tick_word tick_text kinds.ticks text ticks rules room)
+    (canonical_at route_at route_word route_text kinds.routes text routes rules room)
+    (canonical_at pair_at then_word pair_text kinds.pairs text pairs rules room)
     (wrong_at (order_refused text)))
 
 -- what the program writes: the canonical text, or one line with the refusal

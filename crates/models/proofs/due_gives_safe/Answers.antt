@@ -1,6 +1,5 @@
-use Rattle.std.proofs.Common.{rules}
 use Rattle.models.proofs.Theorems.{due_gives_safe_lem}
 use Rattle.models.proofs.due_gives_safe.Goals as goal
 
 pub returns : goal.returns
-returns g c = due_gives_safe_lem (search rules)
+returns g c = due_gives_safe_lem g.met.O.Order.lawful

@@ -1,4 +1,4 @@
-use Rattle.std.proofs.Common.{◌/◌, ◌%◌, ◌<◌, arith}
+use Rattle.std.proofs.Common.{◌%◌, arith}
 use Rattle.std.proofs.lemmas.Nat.{one_shl, mod_below}
 use Rattle.words.proofs.Adding.{has_number-with_number}
 use Rattle.words.proofs.numbers.add.Goals as goal
