@@ -20,7 +20,7 @@ fn is_within(a: usize, b: usize) -> bool
 }
 
 // Step `index` of a pattern, positives first.
-#[tactic(auto, using(crate::proofs::Steps::appended))]
+#[tactic(auto, using(crate::proofs::Appended::appended))]
 fn step_at(pattern: &Pattern, index: usize) -> Option<Step>
     ensures { result ≡ slice_get (steps pattern.now) index }
 {
