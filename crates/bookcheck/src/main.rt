@@ -7,7 +7,7 @@ use stamps::then::Then;
 use stamps::tick::Tick;
 use std::io;
 use std::io::{Read, Write};
-use writing::reply::{MAX_INPUT, reply};
+use writing::reply::{MAX_INPUT, Tables, reply};
 
 const TABLE: usize = 1024;
 
@@ -47,14 +47,13 @@ fn run(rt: &HostRuntime) -> anyhow::Result<()> {
     }; TABLE]?;
     let mut rules = vec![in heap; None; TABLE]?;
     let mut sheet = vec![in heap; 0u8; MAX_INPUT]?;
-    let length = reply(
-        &text,
-        &mut ticks,
-        &mut routes,
-        &mut pairs,
-        &mut rules,
-        &mut sheet,
-    );
+    let tables = Tables {
+        ticks: &mut ticks,
+        routes: &mut routes,
+        pairs: &mut pairs,
+        rules: &mut rules,
+    };
+    let length = reply(&text, tables, &mut sheet);
     if let Some(written) = sheet.get(0..length) {
         rt.stdout().write_all(written)?;
     }

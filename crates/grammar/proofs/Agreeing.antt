@@ -5,11 +5,11 @@ use Rattle.std.proofs.lemmas.Bool.{cases_eq, eq-eqb, ne_eqb}
 use Rattle.std.specs.List.{slice_get}
 use Rattle.books.specs.declared.fault.ReadFault.TheVariants.{Byte, NotRising, Number, TooMany, AtomMissing}
 use Rattle.books.specs.declared.fault.Fault.{Fault}
-use Rattle.books.specs.declared.fault.Fault.TheVariants.{Reading, Checking}
+use Rattle.books.specs.declared.fault.Fault.TheVariants.{Reading, Checking, Making}
 use Rattle.text.specs.Bytes.{and_then, pass_at, pass_if, wrong_at}
 use Rattle.text.specs.Words.{pass_word}
 use Rattle.grammar.specs.Pieces.{Care, shape, kept, plain, Kept, Exactly, Followed}
-use Rattle.grammar.proofs.Agreement.{AtByte, Same, Shared, Between, Seen, Reads, Agrees}
+use Rattle.grammar.specs.Agreement.{AtByte, Same, Shared, Between, Seen, Reads, Agrees}
 use Rattle.grammar.proofs.Following.{word_to, word_from}
 use Rattle.grammar.proofs.Places.{slice_get_front, drop_past, between_join, between_none, between_one}
 
@@ -24,6 +24,7 @@ at_byte_map (Reading (Number k)) f h = tt
 at_byte_map (Reading (TooMany k)) f h = tt
 at_byte_map (Reading (AtomMissing r l)) f h = tt
 at_byte_map (Checking x) f h = tt
+at_byte_map (Making x) f h = tt
 
 -- two facts of the same place
 pub at_byte_both : (e : Fault) (P Q : ℕ → Type 0) → AtByte e P → AtByte e Q → AtByte e (λ k. P k × Q k)
@@ -33,6 +34,7 @@ at_byte_both (Reading (Number k)) P Q a b = tt
 at_byte_both (Reading (TooMany k)) P Q a b = tt
 at_byte_both (Reading (AtomMissing r l)) P Q a b = tt
 at_byte_both (Checking x) P Q a b = tt
+at_byte_both (Making x) P Q a b = tt
 
 -- a fault that is not a byte's says nothing of a byte
 pub not_at_byte : (e : Fault) (P : ℕ → Type 0) → AtByte e (λ _. ⊥) → AtByte e P

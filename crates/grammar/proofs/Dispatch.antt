@@ -1,32 +1,18 @@
 -- The form at a place, chosen byte by byte.
-use Rattle.std.proofs.Common.{◌≡◌, ℕ, zero, suc, ◌+◌, ◌≤◌, max, Bool, true, false, cond, ◌&&◌, eqb, List, [], ◌∷◌, drop, Some, None, Ok, codes, Option, Result, sym, refl, ap, ◌∙◌, subst, inl, inr, add-one, arith}
+use Rattle.std.proofs.Common.{◌≡◌, ℕ, ◌+◌, ◌≤◌, max, Bool, true, false, cond, ◌&&◌, eqb, List, [], ◌∷◌, drop, Some, None, Ok, codes, Option, Result, sym, refl, ap, ◌∙◌, subst, inl, inr, arith}
 use Rattle.std.proofs.lemmas.Bool.{cases_eq, ne_eqb}
 use Rattle.std.specs.List.{slice_get}
 use Rattle.books.specs.declared.fault.Fault.{Fault}
-use Rattle.text.specs.Bytes.{and_then, wrong_at, pass_at, pass_if}
+use Rattle.text.specs.Bytes.{and_then, wrong_at, pass_at}
 use Rattle.text.specs.Words.{pass_word, agrees_to, is_byte}
 use Rattle.text.specs.Kinds.{order_opening, atom_opening, rule_opening, void_opening, end_opening, begins, kind_of}
+use Rattle.text.proofs.Opened.{begins_step, pass_if_lem}
 use Rattle.text.specs.Rules.{rule_at}
 use Rattle.text.specs.Forms.{Line, atom_line, rule_line, end_line, closing, next_number, if_room, reading_at, order_at, atom_at, rule_form_at, void_at, end_at, refused_at, by_kind, form_at}
 use Rattle.text.specs.declared.kind.Kind.{Kind}
 use Rattle.text.specs.declared.kind.Kind.TheVariants as kind
 use Rattle.text.specs.declared.reader.Stage.TheVariants.{Start, Atoms, Rules}
-use Rattle.text.specs.declared.reader.Room.{Room}
-
--- a text begins with a word if its first byte is the word's, and what follows begins with the rest
-begins_step : (b : ℕ) (word text : List ℕ) (at : ℕ) → begins (b ∷ word) (drop at text) ≡ (is_byte b (slice_get text at) && begins word (drop (at + 1) text))
-begins_step b word text at = by_suc text at ∙ ap (λ n. is_byte b (slice_get text at) && begins word (drop n text)) (sym (add-one at))
-  where
-    by_suc : (text : List ℕ) (at : ℕ) → begins (b ∷ word) (drop at text) ≡ (is_byte b (slice_get text at) && begins word (drop (suc at) text))
-    by_suc [] zero = refl
-    by_suc [] (suc at) = refl
-    by_suc (x ∷ text) zero = refl
-    by_suc (x ∷ text) (suc at) = by_suc text at
-
--- a byte is passed where it stands
-pass_if_lem : (b at : ℕ) (o : Option ℕ) → pass_if b at o ≡ cond (is_byte b o) (Ok (at + 1)) (wrong_at at)
-pass_if_lem b at None = refl
-pass_if_lem b at (Some x) = refl
+use Rattle.text.specs.declared.counts.Counts.{Counts}
 
 pass_by : {X : Type 0} (t : Bool) (at m : ℕ) (K : ℕ → Result X Fault) → and_then (cond t (Ok m) (wrong_at at)) K ≡ cond t (K m) (wrong_at at)
 pass_by true at m K = refl
@@ -248,7 +234,7 @@ module _ (S : Type 0) where
   abbrev pub end_rest : List ℕ → ℕ → Result (Line S × ℕ) Fault
   end_rest text m = and_then (pass_word end_word text m) (λ a. and_then (pass_at 10 text a) (λ next. Ok (end_line, next)))
 
-  module _ (room : Room) (atoms rules : ℕ) where
+  module _ (room : Counts) (atoms rules : ℕ) where
     -- a rule from its number on, in a form that stands at `at`
     abbrev pub rule_rest : ℕ → List ℕ → ℕ → Result (Line S × ℕ) Fault
     rule_rest at text a =
@@ -277,7 +263,7 @@ module _ (S : Type 0) where
         (λ s. and_then (pass_word closing text s.1)
         (λ next. Ok (atom_line (record { stamp = s.0; reading = k.0 }), next)))))))
 
-module _ {S : Type 0} (stamp_at : List ℕ → ℕ → Result (S × ℕ) Fault) (word : List ℕ) (room : Room) (atoms rules : ℕ) where
+module _ {S : Type 0} (stamp_at : List ℕ → ℕ → Result (S × ℕ) Fault) (word : List ℕ) (room : Counts) (atoms rules : ℕ) where
   -- the forms after their bracket, which stands at `at`
   abbrev pub after_atom : ℕ → List ℕ → ℕ → Result (Line S × ℕ) Fault
   after_atom at text m = and_then (pass_word atom_word text m) (atom_rest S room atoms rules stamp_at at text)

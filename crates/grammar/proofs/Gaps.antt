@@ -9,9 +9,10 @@ use Rattle.std.specs.Option.{option_map, option_and_then, option_flatten}
 use Rattle.books.proofs.First.{first_none, first_all, within}
 use Rattle.books.specs.Check.{first_below}
 use Rattle.books.specs.Meaning.{Rule, Atom, Meaning, rule_at, stamp_of, literals}
+use Rattle.books.specs.declared.book.Sign.TheVariants.{Positive, Negative}
 use Rattle.books.specs.declared.fault.CheckFault.{CheckFault}
 use Rattle.books.specs.declared.fault.CheckFault.TheVariants.{BodyTooLong, HeadMissing, LiteralMissing}
-use Rattle.text.specs.Spelt.{count_or}
+use Rattle.text.specs.Spelt.{body_in}
 use Rattle.writing.proofs.Gapless.{small_atoms, small_rules, few_everywhere}
 use Rattle.writing.specs.Writes.{missing, literal_gap, rule_gap, book_gap}
 
@@ -102,7 +103,7 @@ module _ {S : Type 0} (m : Meaning S) where
   short : book_gap m ≡ None → (k : ℕ) (r : Rule) → rule_at m k ≡ Some r → (length r.positives ≤ 6) × (length r.negatives ≤ 6)
   short e k r is =
       let few = few_everywhere m e k in
-      (subst (λ o. count_or (option_map (λ (s : Rule). length s.positives) o) ≤ 6) is few.0, subst (λ o. count_or (option_map (λ (s : Rule). length s.negatives) o) ≤ 6) is few.1)
+      (subst (λ o. length (body_in Positive o) ≤ 6) is (few Positive), subst (λ o. length (body_in Negative o) ≤ 6) is (few Negative))
 
   gapless_in : book_gap m ≡ None → (k : ℕ) (o : Option Rule) → rule_at m k ≡ o → gap_in k o ≡ None → GaplessRow count o
   gapless_in g k None is e = tt

@@ -3,13 +3,13 @@ use Rattle.std.proofs.Common.{ℕ, ◌<◌, List}
 use Rattle.books.specs.Meaning.{Atom}
 use Rattle.text.specs.Forms.{Line, order_line, atom_line, rule_line, end_line}
 use Rattle.text.specs.Spelt.{end_text}
-use Rattle.text.specs.declared.reader.Room.{Room}
+use Rattle.text.specs.declared.counts.Counts.{Counts}
 use Rattle.text.specs.declared.reader.Stage.{Stage}
 use Rattle.text.specs.declared.reader.Stage.TheVariants.{Start, Atoms, Rules, End}
 use Rattle.grammar.specs.Pieces.{Care, Kept, Exactly}
 use Rattle.grammar.specs.Grammar.{OrderForm, AtomForm, RuleForm}
 
-module _ {S : Type 0} (word : List ℕ) (spells : Care → S → List ℕ → Type 0) (room : Room) where
+module _ {S : Type 0} (word : List ℕ) (spells : Care → S → List ℕ → Type 0) (room : Counts) where
   -- the atom of the next number, where there is room for it
   abbrev pub AtomNext : ℕ → Care → Atom S → List ℕ → Type 0
   AtomNext atoms c a text = Kept c (atoms < room.atoms) × AtomForm spells c atoms a text

@@ -5,9 +5,9 @@ use Rattle.std.specs.List.{slice_get}
 use Rattle.books.specs.Check.{book_fault, unless}
 use Rattle.books.specs.Meaning.{Meaning}
 use Rattle.books.specs.declared.fault.CheckFault.{CheckFault}
-use Rattle.books.specs.declared.fault.CheckFault.TheVariants.{SheetTooShort}
+use Rattle.books.specs.declared.fault.MakeFault.TheVariants.{SheetTooShort}
 use Rattle.books.specs.declared.fault.Fault.{Fault}
-use Rattle.books.specs.declared.fault.Fault.TheVariants.{Reading, Checking}
+use Rattle.books.specs.declared.fault.Fault.TheVariants.{Reading, Making}
 use Rattle.books.specs.declared.fault.ReadFault.TheVariants.{Byte, TooMany}
 use Rattle.text.specs.Bytes.{and_then, wrong_at}
 use Rattle.text.specs.Kinds.{begins}
@@ -256,7 +256,7 @@ no_byte (Some f) gap needed room x k e = let z : ◌≡◌ {A = ℕ} 0 1 = cc in
 no_byte None (Some f) needed room x k e = let z : ◌≡◌ {A = ℕ} 0 1 = cc in omega arith
 no_byte {X} None None needed room x k e = by_room (ltb room needed) e
   where
-    by_room : (t : Bool) → and_then (cond t (Err (Checking (SheetTooShort needed))) (Ok needed)) (λ _. Ok x) ≡ Err (Reading (Byte k)) → ⊥
+    by_room : (t : Bool) → and_then (cond t (Err (Making (SheetTooShort needed))) (Ok needed)) (λ _. Ok x) ≡ Err (Reading (Byte k)) → ⊥
     by_room true e = let z : ◌≡◌ {A = ℕ} 0 1 = cc in omega arith
     by_room false e = let z : ◌≡◌ {A = ℕ} 0 1 = cc in omega arith
 

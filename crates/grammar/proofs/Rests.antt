@@ -4,7 +4,7 @@ use Rattle.books.specs.Meaning.{Rule, Atom, Meaning}
 use Rattle.text.specs.Forms.{closing, rule_line}
 use Rattle.text.specs.Kinds.{order_opening}
 use Rattle.text.specs.Spelt.{end_text}
-use Rattle.text.specs.declared.reader.Room.{Room}
+use Rattle.text.specs.declared.counts.Counts.{Counts}
 use Rattle.text.specs.declared.reader.Stage.{Stage}
 use Rattle.text.specs.declared.reader.Stage.TheVariants.{Start, Atoms, Rules, End}
 use Rattle.grammar.specs.Pieces.{Care, shape, kept, Kept, Exactly, Followed}
@@ -24,7 +24,7 @@ Going End = ⊥
 abbrev pub bare : {S : Type 0} → Meaning S
 bare = record { atoms = []; rules = [] }
 
-module _ {S : Type 0} (word : List ℕ) (spells : Care → S → List ℕ → Type 0) (room : Room) where
+module _ {S : Type 0} (word : List ℕ) (spells : Care → S → List ℕ → Type 0) (room : Counts) where
   -- the rules from number r on, where there is room for them, and the end
   abbrev pub RulesRest : ℕ → ℕ → Care → List (Option Rule) → List ℕ → Type 0
   RulesRest a r c [] = Exactly end_text

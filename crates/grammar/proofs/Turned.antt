@@ -13,11 +13,11 @@ use Rattle.text.specs.Reads.{Progress, after, is_end, one_form, progress_at, boo
 use Rattle.text.specs.Turns.{turns, tries}
 use Rattle.text.specs.Words.{agrees_to, is_byte}
 use Rattle.text.specs.declared.reader.Reader.{Reader}
-use Rattle.text.specs.declared.reader.Room.{Room}
+use Rattle.text.specs.declared.counts.Counts.{Counts}
 use Rattle.text.specs.declared.reader.Stage.{Stage}
 use Rattle.text.specs.declared.reader.Stage.TheVariants.{Start, Atoms, Rules, End}
 use Rattle.grammar.specs.Pieces.{Care, kept, Exactly, Followed}
-use Rattle.grammar.proofs.Agreement.{Between, Seen, Agrees}
+use Rattle.grammar.specs.Agreement.{Between, Seen, Agrees}
 use Rattle.grammar.proofs.Agreeing.{then_then}
 use Rattle.grammar.proofs.Lines.{FormAt}
 use Rattle.grammar.proofs.Onward.{with_atom, with_rule, onward, lines}
@@ -49,7 +49,7 @@ refused_there text End at l = refl
 word_byte : (b : ℕ) (word : List ℕ) (B : List ℕ → Type 0) (piece : List ℕ) → Followed (Exactly (b ∷ word)) B piece → 1 ≤ length piece
 word_byte b word B piece f = omega (arith, ap length f.whole, length-append f.front f.back, ap length f.first)
 
-module _ {S : Type 0} (word : List ℕ) (spells : Care → S → List ℕ → Type 0) (room : Room) where
+module _ {S : Type 0} (word : List ℕ) (spells : Care → S → List ℕ → Type 0) (room : Counts) where
   rule_byte : (a r : ℕ) (c : Care) (o : Option Rule) (piece : List ℕ) → FormAt word spells room Rules a r c (rule_line o) piece → 1 ≤ length piece
   rule_byte a r c None piece f = word_byte _ _ _ piece f.1
   rule_byte a r c (Some x) piece f = word_byte _ _ _ piece f.1
@@ -98,7 +98,7 @@ closed_rule xs os o m at (Some b) = refl
 closed_bare : {S : Type 0} (xs : List (Atom S)) (os : List (Option Rule)) (at : ℕ) → closed xs os bare at None ≡ Ok (record { atoms = xs; rules = os })
 closed_bare xs os at = ap (λ t. Ok (record { atoms = t; rules = os ++ [] })) (append-nil xs) ∙ ap (λ t. Ok (record { atoms = xs; rules = t })) (append-nil os)
 
-module _ {S : Type 0} (stamp_at : List ℕ → ℕ → Result (S × ℕ) Fault) (word : List ℕ) (room : Room) (text : List ℕ) where
+module _ {S : Type 0} (stamp_at : List ℕ → ℕ → Result (S × ℕ) Fault) (word : List ℕ) (room : Counts) (text : List ℕ) where
   abbrev place : Stage → ℕ → ℕ → ℕ → Reader
   place stage at a r = record { stage = stage; next = at; atoms = a; rules = r }
 
@@ -198,12 +198,12 @@ closed_ended : {S : Type 0} (m : Meaning S) (at : ℕ) (o : Option ℕ) → clos
 closed_ended m at None = refl
 closed_ended m at (Some b) = refl
 
-module _ {S : Type 0} (stamp_at : List ℕ → ℕ → Result (S × ℕ) Fault) (word : List ℕ) (room : Room) where
+module _ {S : Type 0} (stamp_at : List ℕ → ℕ → Result (S × ℕ) Fault) (word : List ℕ) (room : Counts) where
   -- the forms of a text from the start on, and no byte more
   abbrev pub whole : ℕ → List ℕ → ℕ → Result (Meaning S × ℕ) Fault
   whole n text at = and_then (lines stamp_at word room n Start 0 0 text at) (λ p. ended p.0 p.1 (slice_get text p.1))
 
-module _ {S : Type 0} (stamp_at : List ℕ → ℕ → Result (S × ℕ) Fault) (word : List ℕ) (spells : Care → S → List ℕ → Type 0) (room : Room)
+module _ {S : Type 0} (stamp_at : List ℕ → ℕ → Result (S × ℕ) Fault) (word : List ℕ) (spells : Care → S → List ℕ → Type 0) (room : Counts)
     (forms : (stage : Stage) → Going stage → (atoms rules : ℕ) → Agrees (λ text at. form_at stamp_at word text room (record { stage = stage; next = at; atoms = atoms; rules = rules })) (FormAt word spells room stage atoms rules) (λ _. Unit {0})) where
   -- the book of a text is that of its forms, where there may be more of them than bytes
   pub book_whole : (text : List ℕ) (n : ℕ) → length text < n → book_at stamp_at word text room ≡ and_then (whole stamp_at word room n text 0) (λ p. Ok p.0)

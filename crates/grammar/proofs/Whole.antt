@@ -9,12 +9,12 @@ use Rattle.books.specs.declared.fault.Fault.TheVariants.{Reading}
 use Rattle.text.specs.Bytes.{and_then}
 use Rattle.text.specs.Forms.{form_at}
 use Rattle.text.specs.Reads.{book_at}
-use Rattle.text.specs.declared.reader.Room.{Room}
+use Rattle.text.specs.declared.counts.Counts.{Counts}
 use Rattle.text.specs.declared.reader.Stage.{Stage}
 use Rattle.text.specs.declared.reader.Stage.TheVariants.{Start}
 use Rattle.grammar.specs.Pieces.{Care, shape, kept, Kept}
 use Rattle.grammar.specs.Grammar.{Spells}
-use Rattle.grammar.proofs.Agreement.{AtByte, Same, Shared, Between, Seen, ShapeOnly, Reads, Agrees}
+use Rattle.grammar.specs.Agreement.{AtByte, Same, Shared, Between, Seen, ShapeOnly, Reads, Agrees}
 use Rattle.grammar.proofs.Agreeing.{Reaches, Via, agrees_then, shared_from}
 use Rattle.grammar.proofs.Lines.{FormAt}
 use Rattle.grammar.proofs.Onward.{lines, Lines, lines_rest, start_lines, lines_agree}
@@ -115,7 +115,7 @@ module _ {S : Type 0} where
 front_take : (text : List ℕ) (k : ℕ) (piece : List ℕ) → Between text 0 k piece → piece ≡ take k text
 front_take text k piece b = sym (ap (take k) b.stands ∙ take_at piece (drop k text) k (omega (arith, b.place)))
 
-module _ {S : Type 0} (stamp_at : List ℕ → ℕ → Result (S × ℕ) Fault) (word : List ℕ) (spells : Care → S → List ℕ → Type 0) (room : Room)
+module _ {S : Type 0} (stamp_at : List ℕ → ℕ → Result (S × ℕ) Fault) (word : List ℕ) (spells : Care → S → List ℕ → Type 0) (room : Counts)
     (forms : (stage : Stage) → Going stage → (atoms rules : ℕ) → Agrees (λ text at. form_at stamp_at word text room (record { stage = stage; next = at; atoms = atoms; rules = rules })) (FormAt word spells room stage atoms rules) (λ _. Unit {0})) where
   -- the forms of a book, n at most
   abbrev Forms : ℕ → Care → Meaning S → List ℕ → Type 0
@@ -184,10 +184,3 @@ module _ {S : Type 0} (stamp_at : List ℕ → ℕ → Result (S × ℕ) Fault) 
   book_none text k e l more m h =
       let other = take (k + 1) text ++ more in
       never_byte shape (book other) m k (book_reads shape other m h tt) (book_shared text other k e (same_front text more k l))
-
-  -- a text that keeps every rule has the shape
-  pub book_shaped : (text : List ℕ) (m : Meaning S) → length m.atoms ≤ room.atoms → length m.rules ≤ room.rules → Spells word spells kept m text → Spells word spells shape m text
-  book_shaped text m a r h =
-      let n = length m.atoms + length m.rules + 1 in
-      let parts = rest_forms n kept m text (omega arith) (spells_rest word spells room kept m text (a, r) h) in
-      rest_spells word spells room shape m text (forms_rest (suc n) shape m text ((whole_agrees (suc n)).shaped kept m text parts))

@@ -1,7 +1,7 @@
 -- What it means that a set is closed under what remains of the rules, in terms of the rules themselves.
 use Rattle.std.proofs.Common.{◌≡◌, ℕ, Bool, true, false, cond, [], Some, None, Option, sym, refl, ap, ◌∙◌, subst, arith}
-use Rattle.std.specs.Option.{option_and_then}
 use Rattle.books.specs.Meaning.{Rule, Meaning, rule_at}
+use Rattle.std.specs.Option.{option_and_then}
 use Rattle.models.specs.Sets.{Set}
 use Rattle.models.specs.Stability.{reduced, Closed}
 use Rattle.models.proofs.Truth.{false_in, never}

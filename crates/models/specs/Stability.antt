@@ -1,7 +1,7 @@
 -- Stable models of a book: what remains of its rules once a set has judged their negatives, and the least set closed under that.
 use Rattle.std.specs.Prelude.{◌≡◌, ℕ, cond, [], Some, None, Option}
-use Rattle.std.specs.Option.{option_and_then}
 use Rattle.books.specs.Meaning.{Rule, Meaning, rule_at}
+use Rattle.std.specs.Option.{option_and_then}
 use Rattle.models.specs.Sets.{Set, Within}
 use Rattle.models.specs.Verdicts.{is_reading}
 use Rattle.std.specs.Bool.{IsTrue}

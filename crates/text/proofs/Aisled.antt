@@ -1,8 +1,8 @@
 -- What is written of one aisle.
-use Rattle.std.proofs.Common.{◌≡◌, ℕ, ◌*◌, ◌/◌, ◌%◌, ◌^◌, ◌<◌, [], ◌++◌, decimal, sym, ap, ◌∙◌}
+use Rattle.std.proofs.Common.{◌≡◌, ℕ, ◌*◌, ◌/◌, ◌%◌, ◌^◌, ◌<◌, [], ap, ◌∙◌}
 use Rattle.std.proofs.lemmas.Nat.{one_shl}
-use Rattle.std.proofs.lemmas.Bool.{eq-eqb, ne_eqb, cond-true, cond-false}
-use Rattle.text.specs.Spelt.{aisle_text, space}
+use Rattle.std.proofs.lemmas.Bool.{ne_eqb, cond-false}
+use Rattle.text.specs.Spelt.{aisle_text}
 
 module _ (aisles k bit : ℕ) (h : k < 64) (e : bit ≡ (1 * 2 ^ k) % 2 ^ 64) where
   is_bit : bit ≡ 2 ^ k
@@ -10,8 +10,3 @@ module _ (aisles k bit : ℕ) (h : k < 64) (e : bit ≡ (1 * 2 ^ k) % 2 ^ 64) wh
 
   pub no_aisle_lem : (aisles / bit % 2 ≡ 1 → ⊥) → aisle_text aisles k ≡ []
   no_aisle_lem t = cond-false _ _ _ (ne_eqb (aisles / 2 ^ k % 2) 1 (λ p. t (ap (λ b. aisles / b % 2) is_bit ∙ p)))
-
-  pub next_aisle : aisles / bit % 2 ≡ 1 → (aisles % bit ≡ 0 → ⊥) → aisle_text aisles k ≡ space ++ decimal k
-  next_aisle t f =
-      cond-true _ _ _ (eq-eqb (aisles / 2 ^ k % 2) 1 (sym (ap (λ b. aisles / b % 2) is_bit) ∙ t))
-      ∙ ap (λ s. s ++ decimal k) (cond-false _ _ _ (ne_eqb (aisles % 2 ^ k) 0 (λ p. f (ap (λ b. aisles % b) is_bit ∙ p))))

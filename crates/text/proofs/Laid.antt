@@ -1,9 +1,10 @@
 -- Bytes on a sheet, one after another.
-use Rattle.std.proofs.Common.{◌≡◌, ℕ, ◌+◌, ◌^◌, ◌<◌, ◌≤◌, List, [], ◌∷◌, ◌++◌, length, get_or, drop, set, decimal, sym, refl, ap, ◌∙◌, add-one, arith, length-append}
+use Rattle.std.proofs.Common.{◌≡◌, ℕ, ◌+◌, ◌*◌, ◌^◌, ◌<◌, ◌≤◌, List, [], ◌∷◌, ◌++◌, length, get_or, drop, set, decimal, sym, refl, ap, subst, ◌∙◌, add-one, arith, length-append}
 use Rattle.std.proofs.lemmas.List.{at_drop_more, at_drop_all, set_at, length_push, append-nil, append_assoc}
 use Rattle.std.proofs.lemmas.Fmt.{length-decimal-le}
 use Rattle.text.specs.Spelt.{up_to}
-use Rattle.text.specs.Written.{laid, Wrote}
+use Rattle.text.specs.Written.{laid, Writes}
+use Rattle.text.specs.declared.sheet.Sheet.{Sheet}
 
 pub laid_more : (sheet bytes : List ℕ) (at i : ℕ) → i < length bytes → laid sheet at (drop i bytes) ≡ laid (set sheet at (get_or bytes i 0)) (at + 1) (drop (i + 1) bytes)
 unfolding laid
@@ -18,34 +19,8 @@ unfolding laid
 laid-append sheet [] ys at = ap (λ n. laid sheet n ys) (omega arith)
 laid-append sheet (x ∷ xs) ys at = laid-append (set sheet at x) xs ys (at + 1) ∙ ap (λ n. laid (laid (set sheet at x) (at + 1) xs) n ys) (omega arith)
 
--- one writing after another
-pub wrote_then : {was : List ℕ} {at : ℕ} {xs mid : List ℕ} {between : ℕ} {ys sheet : List ℕ} {next : ℕ} → Wrote was at xs mid between → Wrote mid between ys sheet next → Wrote was at (xs ++ ys) sheet next
-wrote_then {was} {at} {xs} {mid} {between} {ys} {sheet} {next} h k =
-    record {
-      held = k.held ∙ ap (λ s. laid s between ys) h.held ∙ ap (λ n. laid (laid was at xs) n ys) h.place ∙ sym (laid-append was xs ys at);
-      place = let n = length-append xs ys in let p = h.place in let q = k.place in omega arith;
-    }
-
-pub wrote_none : (was : List ℕ) (at : ℕ) → Wrote was at [] was at
-unfolding laid
-wrote_none was at = record { held = refl; place = omega arith }
-
 pub decimal_short : (n : ℕ) → n < 2 ^ 64 → length (decimal n) ≤ 20
 decimal_short n h = length-decimal-le 20 n (omega arith) (omega arith) h
-
--- one more piece
-pub wrote_more : {was : List ℕ} {at : ℕ} {mid : List ℕ} {between : ℕ} {sheet : List ℕ} {next : ℕ} (f : ℕ → List ℕ) (i : ℕ) → Wrote was at (up_to f i) mid between → Wrote mid between (f i) sheet next → Wrote was at (up_to f (i + 1)) sheet next
-unfolding up_to
-wrote_more {was} {at} {mid} {between} {sheet} {next} f i h k = rw (add-one i) (wrote_then h k)
-
-pub wrote_start : (was : List ℕ) (at : ℕ) (f : ℕ → List ℕ) → Wrote was at (up_to f 0) was at
-unfolding up_to
-wrote_start was at f = wrote_none was at
-
--- the same writing, of what is the same
-pub wrote_as : {was : List ℕ} {at : ℕ} {bytes sheet : List ℕ} {next : ℕ} (bytes' sheet' : List ℕ) (next' : ℕ) → bytes' ≡ bytes → sheet' ≡ sheet → next' ≡ next → Wrote was at bytes sheet next → Wrote was at bytes' sheet' next'
-wrote_as {was} {at} {bytes} {sheet} {next} bytes' sheet' next' eb es en h =
-    record { held = es ∙ h.held ∙ ap (laid was at) (sym eb); place = en ∙ h.place ∙ ap (λ b. at + length b) (sym eb) }
 
 laid_after : (pre s bytes : List ℕ) → length bytes ≤ length s → laid (pre ++ s) (length pre) bytes ≡ (pre ++ bytes) ++ drop (length bytes) s
 unfolding laid
@@ -60,3 +35,36 @@ laid_after pre (x ∷ s) (b ∷ bytes) h =
 -- a text that the sheet has room for, from its first byte on
 pub laid_front : (s bytes : List ℕ) → length bytes ≤ length s → laid s 0 bytes ≡ bytes ++ drop (length bytes) s
 laid_front s bytes h = laid_after [] s bytes h
+
+-- one writing after another
+pub writes_then : {was mid is : Sheet} {xs ys : List ℕ} → Writes was xs mid → Writes mid ys is → Writes was (xs ++ ys) is
+writes_then {was} {mid} {is} {xs} {ys} h k =
+    let w = was.bytes.now in
+    let held : is.bytes.now ≡ laid w was.at (xs ++ ys) =
+    k.wrote.held ∙ ap (λ s. laid s mid.at ys) h.wrote.held ∙ ap (λ n. laid (laid w was.at xs) n ys) h.wrote.place ∙ sym (laid-append w xs ys was.at) in
+    let n = length-append xs ys in
+    let p = h.wrote.place in
+    let q = k.wrote.place in
+    record { wrote = record { held = held; place = omega arith }; same = k.same ∙ h.same }
+
+pub writes_none : (was : Sheet) → Writes was [] was
+unfolding laid
+writes_none was = record { wrote = record { held = refl; place = omega arith }; same = refl }
+
+-- the pieces below a number are written, none of them longer than so much
+pub record WritesBelow (was : Sheet) (f : ℕ → List ℕ) (most n : ℕ) (is : Sheet) : Type 0 where
+  pub written : Writes was (up_to f n) is
+  pub short : is.at ≤ was.at + most * n
+
+pub writes_start : (was : Sheet) (f : ℕ → List ℕ) (most : ℕ) → WritesBelow was f most 0 was
+unfolding up_to
+writes_start was f most = record { written = writes_none was; short = omega arith }
+
+-- one more piece
+pub writes_more : (was mid is : Sheet) (f : ℕ → List ℕ) (most i : ℕ) → WritesBelow was f most i mid → Writes mid (f i) is → is.at ≤ mid.at + most → WritesBelow was f most (i + 1) is
+unfolding up_to
+writes_more was mid is f most i h k short = record { written = rw (add-one i) (writes_then h.written k); short = let s = h.short in omega arith }
+
+-- the same writing, of what is the same
+pub writes_as : {was is : Sheet} {bytes : List ℕ} (bytes' : List ℕ) → bytes' ≡ bytes → Writes was bytes is → Writes was bytes' is
+writes_as {was} {is} bytes' e h = subst (λ b. Writes was b is) (sym e) h

@@ -1,6 +1,8 @@
 pub mod Turned
 pub mod Digits
+pub mod Risen
 pub mod Worded
+pub mod Opened
 pub mod Bodied
 pub mod Surveyed
 pub mod Filled

@@ -1,13 +1,14 @@
 -- The two passes over a text agree.
-use Rattle.std.proofs.Common.{◌≡◌, ℕ, zero, suc, Bool, true, false, cond, List, length, Ok, Err, Result, sym, refl, ap, ◌∙◌, arith}
+use Rattle.std.proofs.Common.{◌≡◌, ℕ, zero, suc, ◌+◌, ◌<◌, ◌≤◌, Bool, true, false, cond, List, length, Ok, Err, Result, sym, refl, ap, ◌∙◌, arith}
 use Rattle.books.specs.Meaning.{Meaning}
 use Rattle.books.specs.declared.fault.Fault.{Fault}
 use Rattle.text.specs.Bytes.{and_then, wrong_at}
 use Rattle.text.specs.Forms.{Line, form_at}
 use Rattle.text.specs.Reads.{Progress, start_progress, start_reader, moved_by, after, is_end, finished, one_form, one_move, progress_at, survey_at, book_at}
 use Rattle.text.specs.Turns.{turns, tries}
+use Rattle.text.proofs.Turned.{turns_none, tries_more, tries_end, tries_refused}
 use Rattle.text.specs.declared.reader.Reader.{Reader}
-use Rattle.text.specs.declared.reader.Room.{Room}
+use Rattle.text.specs.declared.counts.Counts.{Counts}
 
 -- where the reader stands, of what a pass has found
 abbrev pub reader_of : {S : Type 0} → Result (Progress S) Fault → Result Reader Fault
@@ -35,7 +36,7 @@ move_of s true f = refl
 move_of s false (Ok p) = refl
 move_of s false (Err e) = refl
 
-module _ {S : Type 0} (stamp_at : List ℕ → ℕ → Result (S × ℕ) Fault) (spelling : List ℕ) (text : List ℕ) (room : Room) where
+module _ {S : Type 0} (stamp_at : List ℕ → ℕ → Result (S × ℕ) Fault) (spelling : List ℕ) (text : List ℕ) (room : Counts) where
   abbrev form : Progress S → Result (Progress S) Fault
   form = one_form stamp_at spelling text room
 
@@ -59,9 +60,44 @@ module _ {S : Type 0} (stamp_at : List ℕ → ℕ → Result (S × ℕ) Fault) 
   unfolding book_at
   book_is = refl
 
-  pub survey_ends : (r : Reader) → Ok r ≡ tries move start_reader (length text) → cond (is_end r.stage) (Ok r) (wrong_at (length text)) ≡ survey_at stamp_at spelling text room
+-- the reader stands there after n turns
+pub record Surveys {S : Type 0} (stamp_at : List ℕ → ℕ → Result (S × ℕ) Fault) (spelling : List ℕ) (text : List ℕ) (room : Counts) (n : ℕ) (r : Reader) : Type 0 where
+  pub reached : Ok r ≡ tries (one_move stamp_at spelling text room) start_reader n
+
+pub surveys_none : {S : Type 0} (stamp_at : List ℕ → ℕ → Result (S × ℕ) Fault) (spelling : List ℕ) (text : List ℕ) (room : Counts) → Surveys stamp_at spelling text room 0 start_reader
+surveys_none stamp_at spelling text room = record { reached = sym (turns_none (λ r. and_then r (one_move stamp_at spelling text room)) (Ok start_reader)) }
+
+module _ {S : Type 0} {stamp_at : List ℕ → ℕ → Result (S × ℕ) Fault} {spelling : List ℕ} {text : List ℕ} {room : Counts} {n : ℕ} {r : Reader} (h : Surveys stamp_at spelling text room n r) where
+  abbrev step : Reader → Result Reader Fault
+  step = one_move stamp_at spelling text room
+
+  abbrev ends : Result Reader Fault → Result Reader Fault
+  ends o = and_then o (λ r. cond (is_end r.stage) (Ok r) (wrong_at (length text)))
+
+  pub surveys_more : false ≡ finished text r → (line : Line S) (next : ℕ) → Ok (line, next) ≡ form_at stamp_at spelling text room r → (r' : Reader) → r' ≡ moved_by r line next → Surveys stamp_at spelling text room (n + 1) r'
+  surveys_more going line next e r' k =
+      let moves : Ok r' ≡ step r = rw (← going, ← e) (ap Ok k) in
+      record { reached = moves ∙ tries_more step start_reader n r h.reached }
+
+  pub survey_refused : false ≡ finished text r → (e : Fault) → Err e ≡ form_at stamp_at spelling text room r → n < length text → Err e ≡ survey_at stamp_at spelling text room
   unfolding survey_at
-  survey_ends r e = ap (λ r. and_then r (λ r. cond (is_end r.stage) (Ok r) (wrong_at (length text)))) e
+  survey_refused going e k l =
+      let refuses : Err e ≡ step r = rw (← going, ← k) refl in
+      ap ends (tries_refused step start_reader n (length text) r e h.reached refuses l)
+
+  -- a finished text stays as it is
+  pub surveys_all : true ≡ finished text r → n ≤ length text → Surveys stamp_at spelling text room (length text) r
+  surveys_all done l =
+      let stays : step r ≡ Ok r = rw (← done) refl in
+      record { reached = tries_end step start_reader r n (length text) stays h.reached l }
+
+  pub surveys_last : length text ≤ n → n ≤ length text → Surveys stamp_at spelling text room (length text) r
+  surveys_last l m = let last : n ≡ length text = omega arith in record { reached = h.reached ∙ ap (tries step start_reader) last }
+
+  -- after all turns the stage decides
+  pub survey_ends : n ≡ length text → cond (is_end r.stage) (Ok r) (wrong_at (length text)) ≡ survey_at stamp_at spelling text room
+  unfolding survey_at
+  survey_ends e = ap ends (h.reached ∙ ap (tries step start_reader) e)
 
 module _ {S : Type 0} (n : ℕ) where
   ended : (s : Progress S) (b : Bool) (r : Reader) → Ok r ≡ cond b (Ok s.reader) (wrong_at n) → (r ≡ s.reader) × (b ≡ true)

@@ -1,5 +1,5 @@
 -- One more turn.
-use Rattle.std.proofs.Common.{◌≡◌, ℕ, zero, suc, ◌+◌, ◌-◌, ◌<◌, Ok, Err, Result, sym, refl, ap, ◌∙◌, add-zero, add-suc, add-one, arith}
+use Rattle.std.proofs.Common.{◌≡◌, ℕ, zero, suc, ◌+◌, ◌-◌, ◌<◌, ◌≤◌, Ok, Err, Result, sym, refl, ap, ◌∙◌, add-zero, add-suc, add-one, arith}
 use Rattle.books.specs.declared.fault.Fault.{Fault}
 use Rattle.text.specs.Bytes.{and_then}
 use Rattle.text.specs.Turns.{turns, tries}
@@ -12,7 +12,21 @@ pub turns_more : {X : Type 0} (f : X → X) (x : X) (n : ℕ) → turns f x (n +
 unfolding turns
 turns_more f x n = rw add-one refl
 
+turns_stay : {X : Type 0} (f : X → X) (x y : X) (i k : ℕ) → f y ≡ y → y ≡ turns f x i → y ≡ turns f x (i + k)
+turns_stay f x y i zero e h = rw add-zero h
+turns_stay f x y i (suc k) e h = rw (add-suc, ← add-one) (sym e ∙ ap f (turns_stay f x y i k e h) ∙ sym (turns_more f x (i + k)))
+
+-- what a turn leaves as it is, more turns leave as it is
+pub turns_end : {X : Type 0} (f : X → X) (x y : X) (i n : ℕ) → f y ≡ y → y ≡ turns f x i → i ≤ n → y ≡ turns f x n
+turns_end f x y i n e h l =
+    let whole : i + (n - i) ≡ n = omega arith in
+    turns_stay f x y i (n - i) e h ∙ ap (turns f x) whole
+
 module _ {X : Type 0} (f : X → Result X Fault) (x : X) where
+  -- the same of a step that may be refused
+  pub tries_end : (y : X) (i n : ℕ) → f y ≡ Ok y → Ok y ≡ tries f x i → i ≤ n → Ok y ≡ tries f x n
+  tries_end y i n e h l = turns_end (λ r. and_then r f) (Ok x) (Ok y) i n e h l
+
   pub tries_more : (n : ℕ) (s : X) → Ok s ≡ tries f x n → f s ≡ tries f x (n + 1)
   tries_more n s e = ap (λ r. and_then r f) e ∙ sym (turns_more (λ r. and_then r f) (Ok x) n)
 

@@ -10,7 +10,6 @@ use Rattle.makes.specs.declared.rows.RuleRow.{RuleRow}
 use Rattle.text.specs.Reads.{Progress, progress_at, survey_at, book_at, Rows, Held, Accepted, ReadInto}
 use Rattle.text.specs.declared.counts.Counts.{Counts}
 use Rattle.text.specs.declared.reader.Reader.{Reader}
-use Rattle.text.specs.declared.reader.Room.{Room}
 use Rattle.text.proofs.Surveyed.{survey_of, book_of, survey_is, book_is, book_accepted, book_refused, no_fault}
 
 -- so many rows are written as there are things that they mean
@@ -24,7 +23,7 @@ into_refused : {S : Type 0} (m : Result (Meaning S) Fault) (e : Fault) (answer :
 into_refused (Ok m) e answer a b h k = let z : ◌≡◌ {A = ℕ} 0 1 = cc in absurd (omega arith)
 into_refused (Err d) e answer a b h k = let same : e ≡ d = cc in record { fault = k ∙ ap Err same; atoms = refl; rules = refl }
 
-module _ {S : Type 0} (stamp_at : List ℕ → ℕ → Result (S × ℕ) Fault) (spelling : List ℕ) (text : List ℕ) (room : Room) where
+module _ {S : Type 0} (stamp_at : List ℕ → ℕ → Result (S × ℕ) Fault) (spelling : List ℕ) (text : List ℕ) (room : Counts) where
   pub verdict_refused : (e : Fault) (answer : Result Counts Fault) (a : List (AtomRow S)) (b : List (Option RuleRow)) → Err e ≡ survey_at stamp_at spelling text room → answer ≡ Err e → ReadInto (book_at stamp_at spelling text room) answer a a b b
   verdict_refused e answer a b h k =
       into_refused (book_at stamp_at spelling text room) e answer a b

@@ -17,7 +17,7 @@ use Rattle.text.specs.declared.kind.Kind.TheVariants as kind
 use Rattle.text.specs.declared.reader.Stage.{Stage}
 use Rattle.text.specs.declared.reader.Stage.TheVariants as stage
 use Rattle.text.specs.declared.reader.Reader.{Reader}
-use Rattle.text.specs.declared.reader.Room.{Room}
+use Rattle.text.specs.declared.counts.Counts.{Counts}
 use Rattle.text.specs.declared.form.Form.{Form}
 use Rattle.text.specs.declared.form.Form.TheVariants as form
 
@@ -78,7 +78,7 @@ order_at spelling text at =
     (λ next. Ok (order_line, next))))
 
 -- (atom N K S)
-unfoldable pub atom_at : {S : Type 0} → (List ℕ → ℕ → Result (S × ℕ) Fault) → List ℕ → Room → Reader → Result (Line S × ℕ) Fault
+unfoldable pub atom_at : {S : Type 0} → (List ℕ → ℕ → Result (S × ℕ) Fault) → List ℕ → Counts → Reader → Result (Line S × ℕ) Fault
 atom_at stamp_at text room r =
     and_then (pass_word atom_opening text r.next)
     (λ a. if_room r.next r.atoms room.atoms
@@ -90,7 +90,7 @@ atom_at stamp_at text room r =
     (λ next. Ok (atom_line (record { stamp = s.0; reading = k.0 }), next))))))))
 
 -- (rule N H (P..) (Q..))
-unfoldable pub rule_form_at : {S : Type 0} → List ℕ → Room → Reader → Result (Line S × ℕ) Fault
+unfoldable pub rule_form_at : {S : Type 0} → List ℕ → Counts → Reader → Result (Line S × ℕ) Fault
 rule_form_at text room r =
     and_then (pass_word rule_opening text r.next)
     (λ a. if_room r.next r.rules room.rules
@@ -100,7 +100,7 @@ rule_form_at text room r =
     (λ next. Ok (rule_line (Some p.0), next))))))
 
 -- (void N)
-unfoldable pub void_at : {S : Type 0} → List ℕ → Room → Reader → Result (Line S × ℕ) Fault
+unfoldable pub void_at : {S : Type 0} → List ℕ → Counts → Reader → Result (Line S × ℕ) Fault
 void_at text room r =
     and_then (pass_word void_opening text r.next)
     (λ a. if_room r.next r.rules room.rules
@@ -133,13 +133,13 @@ by_kind (Some kind.End) o a r v e n = e
 by_kind None o a r v e n = n
 
 -- stage and kind together tell what is read, or that the form is not allowed there
-abbrev pub form_in : {S : Type 0} → (List ℕ → ℕ → Result (S × ℕ) Fault) → List ℕ → List ℕ → Room → Reader → Result (Line S × ℕ) Fault → Stage → Option Kind → Result (Line S × ℕ) Fault
+abbrev pub form_in : {S : Type 0} → (List ℕ → ℕ → Result (S × ℕ) Fault) → List ℕ → List ℕ → Counts → Reader → Result (Line S × ℕ) Fault → Stage → Option Kind → Result (Line S × ℕ) Fault
 form_in stamp_at spelling text room r refusal stage.Start k = by_kind k (order_at spelling text r.next) refusal refusal refusal refusal refusal
 form_in stamp_at spelling text room r refusal stage.Atoms k = by_kind k refusal (atom_at stamp_at text room r) (rule_form_at text room r) (void_at text room r) (end_at text r.next) refusal
 form_in stamp_at spelling text room r refusal stage.Rules k = by_kind k refusal refusal (rule_form_at text room r) (void_at text room r) (end_at text r.next) refusal
 form_in stamp_at spelling text room r refusal stage.End k = refusal
 
 -- the form at which the reader stands
-unfoldable pub form_at : {S : Type 0} → (List ℕ → ℕ → Result (S × ℕ) Fault) → List ℕ → List ℕ → Room → Reader → Result (Line S × ℕ) Fault
+unfoldable pub form_at : {S : Type 0} → (List ℕ → ℕ → Result (S × ℕ) Fault) → List ℕ → List ℕ → Counts → Reader → Result (Line S × ℕ) Fault
 form_at stamp_at spelling text room r =
     form_in stamp_at spelling text room r (wrong_at (refused_at text r.stage r.next)) r.stage (kind_of (drop r.next text))

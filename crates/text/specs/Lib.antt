@@ -2,6 +2,7 @@ pub mod Bytes
 pub mod Turns
 pub mod Numbers
 pub mod Lists
+pub mod Cursors
 pub mod Words
 pub mod Stamps
 pub mod Kinds

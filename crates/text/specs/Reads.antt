@@ -2,7 +2,9 @@
 use Rattle.std.specs.Prelude.{◌≡◌, ℕ, ◌+◌, ◌<◌, ◌≤◌, min, Bool, true, false, cond, ◌&&◌, List, [], ◌∷◌, ◌++◌, map, length, take, drop, Ok, Err, Option, Result, ◌==◌, slice_set}
 use Rattle.std.specs.Option.{option_map}
 use Rattle.books.specs.Meaning.{Rule, Atom, Meaning}
+use Rattle.books.specs.declared.fault.ReadFault.{ReadFault}
 use Rattle.books.specs.declared.fault.Fault.{Fault}
+use Rattle.books.specs.declared.fault.Fault.TheVariants.{Reading}
 use Rattle.makes.specs.Flats.{atom_of, rule_of}
 use Rattle.makes.specs.declared.rows.AtomRow.{AtomRow}
 use Rattle.makes.specs.declared.rows.RuleRow.{RuleRow}
@@ -12,7 +14,6 @@ use Rattle.text.specs.Forms.{Line, order_line, atom_line, rule_line, end_line, l
 use Rattle.text.specs.declared.reader.Stage.{Stage}
 use Rattle.text.specs.declared.reader.Stage.TheVariants.{Start, Atoms, Rules, End}
 use Rattle.text.specs.declared.reader.Reader.{Reader}
-use Rattle.text.specs.declared.reader.Room.{Room}
 use Rattle.text.specs.declared.counts.Counts.{Counts}
 use Rattle.text.specs.declared.form.Form.{Form}
 use Rattle.text.specs.declared.form.Form.TheVariants as form
@@ -67,7 +68,7 @@ after s p = record { reader = moved_by s.reader p.0 p.1; atoms = atoms_by s.atom
 abbrev pub start_progress : {S : Type 0} → Progress S
 start_progress = record { reader = start_reader; atoms = []; rules = [] }
 
-module _ {S : Type 0} (stamp_at : List ℕ → ℕ → Result (S × ℕ) Fault) (spelling : List ℕ) (text : List ℕ) (room : Room) where
+module _ {S : Type 0} (stamp_at : List ℕ → ℕ → Result (S × ℕ) Fault) (spelling : List ℕ) (text : List ℕ) (room : Counts) where
   -- one more form, until the text is finished
   abbrev pub one_form : Progress S → Result (Progress S) Fault
   one_form s = cond (finished text s.reader) (Ok s) (and_then (form_at stamp_at spelling text room s.reader) (λ p. Ok (after s p)))
@@ -89,16 +90,21 @@ module _ {S : Type 0} (stamp_at : List ℕ → ℕ → Result (S × ℕ) Fault) 
   book_at = and_then progress_at (λ s. cond (is_end s.reader.stage) (Ok (record { atoms = s.atoms; rules = s.rules })) (wrong_at (length text)))
 
 -- whether there is room for what a form says
-abbrev pub Roomy : {S : Type 0} → Room → Reader → Form S → Type 0
+abbrev pub Roomy : {S : Type 0} → Counts → Reader → Form S → Type 0
 Roomy room r form.Order = Unit {0}
 Roomy room r (form.Atom row) = r.atoms < room.atoms
 Roomy room r (form.Rule row) = r.rules < room.rules
 Roomy room r form.End = Unit {0}
 
 -- the reader is past the form that is found, or it stands where it stood
-abbrev pub Stepped : {S : Type 0} → Result (Form S) Fault → Reader → Reader → Result (Line S × ℕ) Fault → Type 0
+abbrev pub Stepped : {S : Type 0} → Result (Form S) ReadFault → Reader → Reader → Result (Line S × ℕ) Fault → Type 0
 Stepped (Ok f) was is found = (Ok (line_of f, is.next) ≡ found) × (is ≡ moved_by was (line_of f) is.next)
-Stepped (Err e) was is found = (Err e ≡ found) × (is ≡ was)
+Stepped (Err e) was is found = (Err (Reading e) ≡ found) × (is ≡ was)
+
+-- an answer of the reader among all faults
+abbrev pub as_fault : {X : Type 0} → Result X ReadFault → Result X Fault
+as_fault (Ok x) = Ok x
+as_fault (Err e) = Err (Reading e)
 
 -- the table of atoms with what a form says
 abbrev pub put_atom : {S : Type 0} → ℕ → List (AtomRow S) → Form S → List (AtomRow S)
@@ -126,12 +132,12 @@ pub record Held {S : Type 0} (s : Progress S) (old_atoms new_atoms : List (AtomR
   pub rules : Rows (option_map rule_of) s.reader.rules s.rules old_rules new_rules
 
 -- what a reader that fills the tables has found
-abbrev pub FilledBy : {S : Type 0} → Result (Progress S) Fault → Result (Unit {0}) Fault → List (AtomRow S) → List (AtomRow S) → List (Option RuleRow) → List (Option RuleRow) → Type 0
+abbrev pub FilledBy : {S : Type 0} → Result (Progress S) Fault → Result (Unit {0}) ReadFault → List (AtomRow S) → List (AtomRow S) → List (Option RuleRow) → List (Option RuleRow) → Type 0
 FilledBy {S} found (Ok u) old_atoms new_atoms old_rules new_rules = (s : Progress S) × (Ok s ≡ found) × Held s old_atoms new_atoms old_rules new_rules
-FilledBy {S} found (Err e) old_atoms new_atoms old_rules new_rules = Err e ≡ found
+FilledBy {S} found (Err e) old_atoms new_atoms old_rules new_rules = Err (Reading e) ≡ found
 
 -- the limits on the atoms and rules of a book, and the tables' own
-abbrev pub room_of : ℕ → ℕ → Room
+abbrev pub room_of : ℕ → ℕ → Counts
 room_of atoms rules = record { atoms = min atoms 1024; rules = min rules 1024 }
 
 -- an accepted text: the counts, and what the tables hold

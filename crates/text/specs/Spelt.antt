@@ -1,9 +1,8 @@
 -- The canonical spelling of a book: no leading zeros.
 use Rattle.std.specs.Prelude.{ℕ, zero, suc, ◌/◌, ◌%◌, ◌^◌, ◌≤◌, Bool, cond, List, [], ◌++◌, length, Some, None, codes, decimal, Option, ◌==◌}
 use Rattle.std.specs.List.{slice_get}
-use Rattle.std.specs.Option.{option_and_then}
-use Rattle.books.specs.Meaning.{Rule, Atom, Meaning, rule_at, body_count_of}
-use Rattle.books.specs.declared.book.Sign.TheVariants.{Positive, Negative}
+use Rattle.books.specs.Meaning.{Rule, Atom, Meaning, rule_at, of_sign}
+use Rattle.books.specs.declared.book.Sign.{Sign}
 use Rattle.stamps.specs.declared.tick.Tick.{Tick}
 use Rattle.stamps.specs.declared.route.Route.{Route}
 use Rattle.stamps.specs.declared.then.Then.{Then}
@@ -84,23 +83,11 @@ unfoldable pub book_text : {S : Type 0} → List ℕ → (S → List ℕ) → Me
 book_text spelling spelt m =
     order_opening ++ spelling ++ closing ++ up_to (atom_line_of spelt m) (length m.atoms) ++ up_to (rule_line_of m) (length m.rules) ++ end_text
 
--- number i of a rule's positives, or of its negatives
-abbrev pub literal_in : Bool → Option Rule → ℕ → Option ℕ
-literal_in positive o i = option_and_then (λ (r : Rule). slice_get (cond positive r.positives r.negatives) i) o
-
--- the same, as it stands in a list
-abbrev pub item_in : Bool → Option Rule → ℕ → List ℕ
-item_in positive o i = item i (literal_in positive o i)
-
--- so many numbers of such a list, in brackets
-abbrev pub body_text : Bool → Option Rule → ℕ → List ℕ
-body_text positive o n = opening ++ up_to (item_in positive o) n ++ shutting
-
--- a count, which is 0 where there is none
-abbrev pub count_or : Option ℕ → ℕ
-count_or None = 0
-count_or (Some n) = n
+-- a rule's list of that sign; a vacant number has none
+abbrev pub body_in : Sign → Option Rule → List ℕ
+body_in sign None = []
+body_in sign (Some r) = of_sign sign r
 
 -- each rule has six positives and six negatives at most
 abbrev pub Few : {S : Type 0} → Meaning S → Type 0
-Few m = (k : ℕ) → (count_or (body_count_of m k Positive) ≤ 6) × (count_or (body_count_of m k Negative) ≤ 6)
+Few m = (k : ℕ) (sign : Sign) → length (body_in sign (rule_at m k)) ≤ 6

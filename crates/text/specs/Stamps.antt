@@ -10,7 +10,6 @@ use Rattle.text.specs.Bytes.{and_then, pass_at}
 use Rattle.text.specs.Turns.{tries}
 use Rattle.text.specs.Numbers.{number_at}
 use Rattle.text.specs.Lists.{open_at, onward_at}
-use Rattle.text.specs.declared.aisles.Aisles.{Aisles}
 
 -- a tick is a number
 abbrev pub tick_at : List ℕ → ℕ → Result (Tick × ℕ) Fault
@@ -25,6 +24,13 @@ pair_at text at =
     (λ second. and_then (tick_at text second)
     (λ b. and_then (pass_at 41 text b.1)
     (λ next. Ok (record { first = a.0; second = b.0 }, next))))))
+
+-- the aisles of a route so far, the lowest that may come next, whether one follows, and where
+pub record Aisles : Type 0 where
+  pub aisles : ℕ
+  pub least : ℕ
+  pub more : Bool
+  pub next : ℕ
 
 -- one more aisle of a route, above those before it
 abbrev pub one_aisle : List ℕ → Aisles → Result Aisles Fault

@@ -1,91 +1,33 @@
 // The aisles of a route, as a text has them.
-ghost use Rattle.std.specs.Prelude.{◌≡◌, ◌+◌, ◌-◌, ◌^◌, ◌<◌, ◌≤◌};
-ghost use Rattle.text.specs.Spelt.{up_to, aisle_text};
-ghost use Rattle.text.specs.Written.{Wrote};
-ghost use Rattle.text.specs.Stamps.{one_aisle, aisles_at};
+ghost use Rattle.std.specs.Prelude.{◌≡◌};
+ghost use Rattle.text.specs.Stamps.{route_at};
+ghost use Rattle.text.specs.Cursors.{Took};
 
-use crate::lists::list_onward;
-use crate::numbers::number;
-use crate::sheet::{put, put_number};
-use books::fault::{Fault, ReadFault};
+use crate::cursor::Cursor;
+use books::fault::ReadFault;
+use stamps::route::Route;
 
 // The highest aisle of a route.
 const MAX_AISLE: u64 = 63;
 
-// Of aisles that rise, a list has 64 at most, and the 65th is refused.
-const MAX_TURNS: usize = 65;
-
-// The aisles of a route so far: the next one is not below `least`.
-#[derive(Clone, Copy)]
-pub struct Aisles {
-    pub aisles: u64,
-    pub least: u64,
-    pub more: bool,
-    pub next: usize,
-}
-
-// One more aisle, if one follows.
-fn one_aisle(text: &[u8], so_far: Aisles) -> Result<Aisles, Fault>
-    ensures { result ≡ one_aisle text.now so_far }
-{
-    if !so_far.more {
-        return Ok(so_far);
+impl Cursor<'_> {
+    // The aisles of a route, which rise.
+    pub(crate) fn route(&mut self) -> Result<Route, ReadFault>
+        ensures { Took result self.old self.new (route_at self.old.text.now self.old.at) }
+    {
+        let mut more = self.open_list()?;
+        let mut aisles = 0;
+        let mut least = 0;
+        while more {
+            let place = self.at;
+            let aisle = self.number(MAX_AISLE)?;
+            if aisle < least {
+                return Err(ReadFault::NotRising { place });
+            }
+            aisles |= 1 << aisle;
+            least = aisle + 1;
+            more = self.list_onward()?;
+        }
+        Ok(Route { aisles })
     }
-    let (aisle, after) = number(text, so_far.next, MAX_AISLE)?;
-    if aisle < so_far.least {
-        return Err(Fault::Reading(ReadFault::NotRising { place: so_far.next }));
-    }
-    let (more, next) = list_onward(text, after)?;
-    Ok(Aisles {
-        aisles: so_far.aisles | 1 << aisle,
-        least: aisle + 1,
-        more,
-        next,
-    })
-}
-
-// The aisles of a list whose opening is passed.
-pub fn rising(text: &[u8], more: bool, next: usize) -> Result<Aisles, Fault>
-    ensures { result ≡ aisles_at text.now (more, next) }
-{
-    let mut so_far = Aisles {
-        aisles: 0,
-        least: 0,
-        more,
-        next,
-    };
-    for _turn in 0..MAX_TURNS {
-        so_far = one_aisle(text, so_far)?;
-    }
-    Ok(so_far)
-}
-
-// Writes the aisle, if the route has it, after a space unless it is the first.
-fn put_aisle(sheet: &mut [u8], at: usize, aisles: u64, aisle: u64) -> usize
-    requires { (at < 2 ^ 61) × (aisle < 64) }
-    ensures wrote { Wrote sheet.old at (aisle_text aisles aisle) sheet.new result }
-    ensures short { result ≤ at + 21 }
-{
-    let bit = 1u64 << aisle;
-    if aisles / bit % 2 != 1 {
-        return at;
-    }
-    if aisles % bit == 0 {
-        return put_number(sheet, at, aisle as usize);
-    }
-    let at = put(sheet, at, b" ");
-    put_number(sheet, at, aisle as usize)
-}
-
-// Writes the aisles of a route, rising.
-pub fn put_aisles(sheet: &mut [u8], at: usize, aisles: u64) -> usize
-    requires { at < 2 ^ 61 - 2000 }
-    ensures wrote { Wrote sheet.old at (up_to (aisle_text aisles) 64) sheet.new result }
-    ensures short { result ≤ at + 1344 }
-{
-    let mut next = at;
-    for aisle in 0..=MAX_AISLE {
-        next = put_aisle(sheet, next, aisles, aisle);
-    }
-    next
 }

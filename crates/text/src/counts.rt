@@ -1,6 +1,6 @@
-// What a reader answers.
+// How many of what a book has.
 
-// How many atoms and rules a text has.
+// So many atoms and rules: what a text has, or what there is room for.
 #[derive(Clone, Copy, PartialEq, Eq, Debug)]
 pub struct Counts {
     pub atoms: usize,

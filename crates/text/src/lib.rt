@@ -2,12 +2,11 @@
 #![tactic(auto)]
 
 mod aisles;
-mod bytes;
 pub mod counts;
+pub mod cursor;
 mod form;
 mod forms;
 mod kind;
-mod lists;
 mod numbers;
 pub mod order;
 mod phrases;
@@ -16,4 +15,5 @@ mod reader;
 mod rule;
 pub mod sheet;
 mod site;
+mod spelling;
 pub mod stamp;

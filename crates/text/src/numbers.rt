@@ -1,9 +1,10 @@
 // Numbers in base ten.
 ghost use Rattle.std.specs.Prelude.{◌≡◌, ◌<◌, ◌≤◌, length, IfSome, IfOk, OnSome};
 ghost use Rattle.text.specs.Numbers.{digit_at, digits_from, number_at};
+ghost use Rattle.text.specs.Cursors.{Took};
 
-use crate::bytes::{byte_at, wrong};
-use books::fault::{Fault, ReadFault};
+use crate::cursor::Cursor;
+use books::fault::ReadFault;
 
 // The largest number of a text, but for aisles.
 pub const MAX_NUMBER: u64 = 4_294_967_295;
@@ -17,8 +18,8 @@ fn digit_at(text: &[u8], at: usize) -> Option<u8>
     ensures small { IfSome result (λ d. d < 10) }
     ensures inside { OnSome result (at < length text.now) }
 {
-    match byte_at(text, at) {
-        Some(b) if b >= b'0' && b <= b'9' => Some(b - b'0'),
+    match text.get(at) {
+        Some(byte) if byte.is_ascii_digit() => Some(*byte - b'0'),
         _ => None,
     }
 }
@@ -29,29 +30,32 @@ fn digits(text: &[u8], at: usize) -> (u64, usize)
 {
     let mut value = 0;
     let mut next = at;
-    for _turn in 0..MAX_DIGITS {
-        if let Some(digit) = digit_at(text, next) {
-            value = value * 10 + digit as u64;
-            next += 1;
+    while let Some(digit) = digit_at(text, next) {
+        if next - at == MAX_DIGITS {
+            break;
         }
+        value = value * 10 + digit as u64;
+        next += 1;
     }
     (value, next)
 }
 
-// The number at a place, and the place after it.
-pub fn number(text: &[u8], at: usize, limit: u64) -> Result<(u64, usize), Fault>
-    ensures value { result ≡ number_at text.now at limit }
-    ensures within { IfOk result (λ p. p.0 ≤ limit) }
-{
-    let (value, next) = digits(text, at);
-    if next == at {
-        return wrong(at);
+impl Cursor<'_> {
+    // The number at the place, which is the whole run of digits there.
+    #[tactic(auto, unfolding(crate::specs::Numbers::number_at))]
+    pub(crate) fn number(&mut self, limit: u64) -> Result<u64, ReadFault>
+        ensures value { Took result self.old self.new (number_at self.old.text.now self.old.at limit) }
+        ensures within { IfOk result (λ n. n ≤ limit) }
+    {
+        let place = self.at;
+        let (value, next) = digits(self.text, place);
+        if next == place || digit_at(self.text, next).is_some() {
+            return Err(ReadFault::Byte { place: next });
+        }
+        if value > limit {
+            return Err(ReadFault::Number { place });
+        }
+        self.at = next;
+        Ok(value)
     }
-    if digit_at(text, next).is_some() {
-        return wrong(next);
-    }
-    if value > limit {
-        return Err(Fault::Reading(ReadFault::Number { place: at }));
-    }
-    Ok((value, next))
 }

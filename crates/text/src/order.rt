@@ -24,6 +24,7 @@ pub fn order_word(text: &[u8]) -> Option<Word>
 }
 
 // The place of the first byte that no order form has there.
+#[tactic(auto, unfolding(crate::specs::Orders::order_refused))]
 pub fn order_refused(text: &[u8]) -> usize
     ensures { result ≡ order_refused text.now }
 {

@@ -1,14 +1,13 @@
 // Reading a whole text into tables of a flat book.
 ghost use Rattle.std.specs.Prelude.{◌≡◌, ◌≤◌, length};
-ghost use Rattle.text.specs.Reads.{is_end, finished, one_move, survey_at, progress_at, book_at, Roomy, put_atom, put_rule, FilledBy, room_of, ReadInto};
+ghost use Rattle.text.specs.Reads.{as_fault, finished, survey_at, progress_at, book_at, Roomy, put_atom, put_rule, FilledBy, room_of, ReadInto};
 
-use crate::bytes::wrong;
 use crate::counts::Counts;
 use crate::form::Form;
-use crate::reader::{Reader, Room, Stage};
+use crate::reader::{Reader, Stage};
 use crate::stamp::Spelled;
 use books::check::{MAX_ATOMS, MAX_RULES};
-use books::fault::Fault;
+use books::fault::{Fault, ReadFault};
 use makes::rows::{AtomRow, RuleRow};
 
 // Before the first byte.
@@ -19,47 +18,29 @@ const START: Reader = Reader {
     rules: 0,
 };
 
-fn is_end(stage: Stage) -> bool
-    ensures { result ≡ is_end stage }
-{
-    match stage {
-        Stage::End => true,
-        _ => false,
-    }
-}
-
 // Past the end form, with no byte left.
 fn is_finished(text: &[u8], reader: Reader) -> bool
     ensures { result ≡ finished text.now reader }
 {
-    is_end(reader.stage) && reader.next == text.len()
-}
-
-// One more form, until the text is finished.
-fn one_move<S: Spelled>(text: &[u8], room: Room, reader: Reader) -> Result<Reader, Fault>
-    ensures { result ≡ one_move S.Spelled.stamp_at S.Spelled.spelling text.now room reader }
-{
-    if is_finished(text, reader) {
-        return Ok(reader);
-    }
-    let mut moving = reader;
-    moving.step::<S>(text, room)?;
-    Ok(moving)
+    reader.stage.is_end() && reader.next == text.len()
 }
 
 // Goes over the whole text and says where its reader ends, which is past the end form.
-fn survey<S: Spelled>(text: &[u8], room: Room) -> Result<Reader, Fault>
-    ensures { result ≡ survey_at S.Spelled.stamp_at S.Spelled.spelling text.now room }
+fn survey<S: Spelled>(text: &[u8], room: Counts) -> Result<Reader, ReadFault>
+    ensures { as_fault result ≡ survey_at S.Spelled.stamp_at S.Spelled.spelling text.now room }
 {
     let mut reader = START;
     // A form has a byte at least, so as many turns as bytes are enough.
     for _turn in 0..text.len() {
-        reader = one_move::<S>(text, room, reader)?;
+        if is_finished(text, reader) {
+            break;
+        }
+        reader.step::<S>(text, room)?;
     }
-    if is_end(reader.stage) {
+    if reader.stage.is_end() {
         Ok(reader)
     } else {
-        wrong(text.len())
+        Err(ReadFault::Byte { place: text.len() })
     }
 }
 
@@ -84,29 +65,31 @@ fn put<S: Spelled>(
 // Goes over the text once more and writes its atoms and rules into the tables.
 fn fill<S: Spelled>(
     text: &[u8],
-    room: Room,
+    room: Counts,
     atoms: &mut [AtomRow<S>],
     rules: &mut [Option<RuleRow>],
-) -> Result<(), Fault>
-    requires { (room.atoms ≤ length atoms.old) × (room.rules ≤ length rules.old) }
+) -> Result<(), ReadFault>
+    requires atoms { room.atoms ≤ length atoms.old }
+    requires rules { room.rules ≤ length rules.old }
     ensures { FilledBy (progress_at S.Spelled.stamp_at S.Spelled.spelling text.now room) result atoms.old atoms.new rules.old rules.new }
 {
     let mut reader = START;
     for _turn in 0..text.len() {
-        if !is_finished(text, reader) {
-            let before = reader;
-            let form = reader.step::<S>(text, room)?;
-            put(form, before, atoms, rules);
+        if is_finished(text, reader) {
+            break;
         }
+        let before = reader;
+        let form = reader.step::<S>(text, room)?;
+        put(form, before, atoms, rules);
     }
     Ok(())
 }
 
 // The limits of a book, and of tables of these lengths.
-fn room_of(atoms: usize, rules: usize) -> Room
+fn room_of(atoms: usize, rules: usize) -> Counts
     ensures { result ≡ room_of atoms rules }
 {
-    Room {
+    Counts {
         atoms: atoms.min(MAX_ATOMS),
         rules: rules.min(MAX_RULES),
     }

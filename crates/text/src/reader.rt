@@ -9,18 +9,23 @@ pub enum Stage {
     End,
 }
 
+impl Stage {
+    ghost use Rattle.std.specs.Prelude.{◌≡◌};
+    ghost use Rattle.text.specs.Reads.{is_end};
+
+    // Past the end form.
+    pub(crate) fn is_end(self) -> bool
+        ensures { result ≡ is_end self }
+    {
+        matches!(self, Stage::End)
+    }
+}
+
 // The stage, the place of the next form, and the atoms and rules read so far.
 #[derive(Clone, Copy)]
 pub struct Reader {
     pub stage: Stage,
     pub next: usize,
-    pub atoms: usize,
-    pub rules: usize,
-}
-
-// How many atoms and rules there is room for.
-#[derive(Clone, Copy)]
-pub struct Room {
     pub atoms: usize,
     pub rules: usize,
 }

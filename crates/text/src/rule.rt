@@ -1,101 +1,80 @@
 // A rule as a text has it.
-ghost use Rattle.std.specs.Prelude.{◌≡◌, ◌<◌, ◌≤◌, length, IfOk, OnOk};
+ghost use Rattle.std.specs.Prelude.{◌≡◌, ◌+◌, ◌≤◌, true, length, IfOk, OnOk};
 ghost use Rattle.makes.specs.Bodies.{body_items};
-ghost use Rattle.text.specs.Rules.{literal_at, body_at, listed, head_at, rule_at, ruled};
+ghost use Rattle.makes.specs.Flats.{rule_of};
+ghost use Rattle.text.specs.Rules.{one_literal, body_at, head_at, rule_at};
+ghost use Rattle.text.specs.Cursors.{Takes, Took, TookAs};
 
-use crate::bytes::pass;
-use crate::lists::{list_onward, open_list};
-use crate::numbers::{MAX_NUMBER, number};
+use crate::cursor::Cursor;
+use crate::numbers::MAX_NUMBER;
 use crate::site::Site;
-use books::check::MAX_BODY;
-use books::fault::{Fault, ReadFault};
+use books::fault::ReadFault;
 use makes::body::Body;
 use makes::rows::RuleRow;
 
-// A list has six atoms at most, and the seventh is refused.
-const MAX_TURNS: usize = 7;
-
-// The atom at a place of a list that has `count` already, whether another follows, and where.
-fn one_literal(
-    text: &[u8],
-    site: Site,
-    before: usize,
-    count: usize,
-    at: usize,
-) -> Result<(usize, bool, usize), Fault>
-    requires { (before ≤ 6) × (count ≤ 6) }
-    ensures value { result ≡ literal_at text.now site before count at }
-    ensures few { OnOk result (count < 6) }
-{
-    let (atom, after) = number(text, at, MAX_NUMBER)?;
-    if count >= MAX_BODY {
-        return Err(Fault::Reading(ReadFault::TooMany { place: site.form }));
-    }
-    let atom = atom as usize;
-    if atom >= site.atoms {
-        return Err(Fault::Reading(ReadFault::AtomMissing {
-            rule: site.rule,
-            literal: before + count + 1,
-        }));
-    }
-    let (more, next) = list_onward(text, after)?;
-    Ok((atom, more, next))
-}
-
-// The atoms of a list, and the place after it; the rule has `before` literals before the list.
-fn body(text: &[u8], site: Site, before: usize, at: usize) -> Result<(Body, usize), Fault>
-    requires { before ≤ 6 }
-    ensures value { listed result ≡ body_at text.now site before at }
-    ensures few { IfOk result (λ p. length (body_items p.0) ≤ 6) }
-{
-    let (mut more, mut next) = open_list(text, at)?;
-    let mut atoms = [0; MAX_BODY];
-    let mut count = 0;
-    for _turn in 0..MAX_TURNS {
-        if more {
-            let (atom, goes_on, after) = one_literal(text, site, before, count, next)?;
-            atoms[count] = atom;
-            count += 1;
-            more = goes_on;
-            next = after;
+impl Cursor<'_> {
+    // Reads one more atom of a list into the body, and says whether another follows. A seventh is refused.
+    fn literal(&mut self, site: Site, before: usize, body: &mut Body) -> Result<bool, ReadFault>
+        requires { before ≤ 6 }
+        ensures value { Takes (λ more at. record { atoms = body_items body.new; more = more; next = at }) result self.old self.new (one_literal self.old.text.now site before (record { atoms = body_items body.old; more = true; next = self.old.at })) }
+        ensures longer { OnOk result (length (body_items body.new) ≡ length (body_items body.old) + 1) }
+    {
+        let atom = self.number(MAX_NUMBER)? as usize;
+        if body.push(atom).is_err() {
+            return Err(ReadFault::TooMany { place: site.form });
         }
+        if atom >= site.atoms {
+            return Err(ReadFault::AtomMissing {
+                rule: site.rule,
+                literal: before + body.count(),
+            });
+        }
+        self.list_onward()
     }
-    match Body::of(&atoms[0..count]) {
-        Some(body) => Ok((body, next)),
-        None => Err(Fault::Reading(ReadFault::TooMany { place: site.form })),
-    }
-}
 
-fn head(text: &[u8], site: Site, at: usize) -> Result<(usize, usize), Fault>
-    ensures { result ≡ head_at text.now site at }
-{
-    let (atom, next) = number(text, at, MAX_NUMBER)?;
-    let atom = atom as usize;
-    if atom >= site.atoms {
-        return Err(Fault::Reading(ReadFault::AtomMissing {
-            rule: site.rule,
-            literal: 0,
-        }));
+    // The atoms of a list; the rule has `before` literals before the list.
+    #[tactic(auto, unfolding(crate::specs::Rules::body_at))]
+    fn body(&mut self, site: Site, before: usize) -> Result<Body, ReadFault>
+        requires { before ≤ 6 }
+        ensures value { TookAs body_items result self.old self.new (body_at self.old.text.now site before self.old.at) }
+        ensures few { IfOk result (λ body. length (body_items body) ≤ 6) }
+    {
+        let mut more = self.open_list()?;
+        let mut body = Body::empty();
+        while more {
+            more = self.literal(site, before, &mut body)?;
+        }
+        Ok(body)
     }
-    Ok((atom, next))
-}
 
-// Head, positives and negatives, each after a space.
-pub fn rule_row(text: &[u8], site: Site, at: usize) -> Result<(RuleRow, usize), Fault>
-    ensures { ruled result ≡ rule_at text.now site at }
-{
-    let at = pass(text, at, b' ')?;
-    let (head, at) = head(text, site, at)?;
-    let at = pass(text, at, b' ')?;
-    let (positives, at) = body(text, site, 0, at)?;
-    let at = pass(text, at, b' ')?;
-    let (negatives, next) = body(text, site, positives.count(), at)?;
-    Ok((
-        RuleRow {
+    fn head(&mut self, site: Site) -> Result<usize, ReadFault>
+        ensures { Took result self.old self.new (head_at self.old.text.now site self.old.at) }
+    {
+        let atom = self.number(MAX_NUMBER)? as usize;
+        if atom >= site.atoms {
+            return Err(ReadFault::AtomMissing {
+                rule: site.rule,
+                literal: 0,
+            });
+        }
+        Ok(atom)
+    }
+
+    // Head, positives and negatives, each after a space.
+    #[tactic(auto, unfolding(crate::specs::Rules::rule_at))]
+    pub(crate) fn rule(&mut self, site: Site) -> Result<RuleRow, ReadFault>
+        ensures { TookAs rule_of result self.old self.new (rule_at self.old.text.now site self.old.at) }
+    {
+        self.pass(b' ')?;
+        let head = self.head(site)?;
+        self.pass(b' ')?;
+        let positives = self.body(site, 0)?;
+        self.pass(b' ')?;
+        let negatives = self.body(site, positives.count())?;
+        Ok(RuleRow {
             head,
             positives,
             negatives,
-        },
-        next,
-    ))
+        })
+    }
 }

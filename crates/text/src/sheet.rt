@@ -1,31 +1,53 @@
-// Bytes and numbers on a sheet. What falls beyond the sheet's end is only counted.
-ghost use Rattle.std.specs.Prelude.{◌≡◌, ◌+◌, ◌^◌, ◌<◌, ◌≤◌, length, decimal};
-ghost use Rattle.text.specs.Written.{Wrote};
+// A sheet, and the bytes and numbers that are written on it.
+ghost use Rattle.std.specs.Prelude.{◌+◌, ◌^◌, ◌<◌, ◌≤◌, cond, [], ◌++◌, length, decimal};
 
-// Writes the bytes, and answers the place after them.
-pub fn put(sheet: &mut [u8], at: usize, bytes: &[u8]) -> usize
-    requires { at + length bytes.now < 2 ^ 63 }
-    ensures { Wrote sheet.old at bytes.now sheet.new result }
-{
-    let mut next = at;
-    for byte in bytes {
-        if next < sheet.len() {
-            sheet[next] = *byte;
-        }
-        next += 1;
-    }
-    next
+// A sheet, and the place that is written next. What falls beyond the sheet's end is only counted.
+#[derive(Drop)]
+pub struct Sheet<'a> {
+    pub bytes: &'a mut [u8],
+    pub at: usize,
 }
 
-// Writes a number in base ten.
-pub fn put_number(sheet: &mut [u8], at: usize, number: usize) -> usize
-    requires { at < 2 ^ 62 }
-    ensures wrote { Wrote sheet.old at (decimal number) sheet.new result }
-    ensures short { result ≤ at + 20 }
-{
-    if number < 10 {
-        return put(sheet, at, &[b'0' + number as u8]);
+impl Sheet<'_> {
+    ghost use Rattle.text.specs.Spelt.{space};
+    ghost use Rattle.text.specs.Written.{Writes};
+
+    // Writes the bytes.
+    pub fn put(&mut self, bytes: &[u8])
+        requires { self.old.at + length bytes.now < 2 ^ 63 }
+        ensures { Writes self.old bytes.now self.new }
+    {
+        for byte in bytes {
+            if self.at < self.bytes.len() {
+                self.bytes[self.at] = *byte;
+            }
+            self.at += 1;
+        }
     }
-    let next = put_number(sheet, at, number / 10);
-    put(sheet, next, &[b'0' + (number % 10) as u8])
+
+    // Writes a number in base ten.
+    pub fn number(&mut self, number: usize)
+        requires { self.old.at < 2 ^ 62 }
+        ensures wrote { Writes self.old (decimal number) self.new }
+        ensures short { self.new.at ≤ self.old.at + 20 }
+    {
+        if number < 10 {
+            self.put(&[b'0' + number as u8]);
+            return;
+        }
+        self.number(number / 10);
+        self.put(&[b'0' + (number % 10) as u8]);
+    }
+
+    // Writes a number of a list, after a space unless it is the first.
+    pub fn list_number(&mut self, first: bool, number: usize)
+        requires { self.old.at < 2 ^ 61 }
+        ensures wrote { Writes self.old (cond first [] space ++ decimal number) self.new }
+        ensures short { self.new.at ≤ self.old.at + 21 }
+    {
+        if !first {
+            self.put(b" ");
+        }
+        self.number(number);
+    }
 }

@@ -2,15 +2,15 @@
 ghost use Rattle.std.specs.Prelude.{◌≡◌, ℕ, ◌+◌, ◌^◌, ◌<◌, ◌≤◌, List, length, Result as Answer};
 ghost use Rattle.books.specs.declared.fault.Fault.{Fault as Refused};
 ghost use Rattle.text.specs.Spelt.{tick_text, pair_text, route_text};
-ghost use Rattle.text.specs.Written.{Wrote};
+ghost use Rattle.text.specs.Written.{Writes};
+ghost use Rattle.text.specs.Cursors.{Took};
 ghost use Rattle.text.specs.Stamps.{tick_at, pair_at, route_at, tick_word, route_word, then_word};
 
-use crate::aisles::{put_aisles, rising};
-use crate::bytes::pass;
-use crate::lists::open_list;
-use crate::numbers::{MAX_NUMBER, number};
-use crate::sheet::{put, put_number};
-use books::fault::Fault;
+use crate::cursor::Cursor;
+use crate::numbers::MAX_NUMBER;
+use crate::sheet::Sheet;
+use crate::spelling::put_aisles;
+use books::fault::ReadFault;
 use stamps::order::Order;
 use stamps::route::Route;
 use stamps::then::Then;
@@ -31,21 +31,24 @@ pub trait Spelled: Order {
         ensures value { result.now ≡ spelling }
         ensures short { length result.now ≤ 8 };
 
-    fn stamp(text: &[u8], at: usize) -> Result<(Self, usize), Fault>
-        ensures { result ≡ stamp_at text.now at };
+    // The stamp at the cursor's place, and the cursor past it. The faults: a byte that no stamp has there,
+    // a number above its limit, an aisle that does not rise.
+    fn stamp(cursor: &mut Cursor<'_>) -> Result<Self, ReadFault>
+        ensures { Took result cursor.old cursor.new (stamp_at cursor.old.text.now cursor.old.at) };
 
-    // Writes the stamp, and answers the place after it. What falls beyond the sheet's end is only counted.
-    fn spell(&self, sheet: &mut [u8], at: usize) -> usize
-        requires { at < 2 ^ 60 }
-        ensures wrote { Wrote sheet.old at (spelt self.now) sheet.new result }
-        ensures short { result ≤ at + 2000 };
+    // Writes the stamp. What falls beyond the sheet's end is only counted.
+    fn spell(&self, sheet: &mut Sheet<'_>)
+        requires { sheet.old.at < 2 ^ 60 }
+        ensures wrote { Writes sheet.old (spelt self.now) sheet.new }
+        ensures short { sheet.new.at ≤ sheet.old.at + 2000 };
 }
 
-fn tick(text: &[u8], at: usize) -> Result<(Tick, usize), Fault>
-    ensures { result ≡ tick_at text.now at }
-{
-    let (value, next) = number(text, at, MAX_NUMBER)?;
-    Ok((Tick(value as u32), next))
+impl Cursor<'_> {
+    fn tick(&mut self) -> Result<Tick, ReadFault>
+        ensures { Took result self.old self.new (tick_at self.old.text.now self.old.at) }
+    {
+        Ok(Tick(self.number(MAX_NUMBER)? as u32))
+    }
 }
 
 impl Spelled for Tick {
@@ -59,12 +62,12 @@ impl Spelled for Tick {
         b"tick"
     }
 
-    fn stamp(text: &[u8], at: usize) -> Result<(Tick, usize), Fault> {
-        tick(text, at)
+    fn stamp(cursor: &mut Cursor<'_>) -> Result<Tick, ReadFault> {
+        cursor.tick()
     }
 
-    fn spell(&self, sheet: &mut [u8], at: usize) -> usize {
-        put_number(sheet, at, self.0 as usize)
+    fn spell(&self, sheet: &mut Sheet<'_>) {
+        sheet.number(self.0 as usize);
     }
 }
 
@@ -79,21 +82,21 @@ impl Spelled for Then<Tick, Tick> {
         b"then"
     }
 
-    fn stamp(text: &[u8], at: usize) -> Result<(Then<Tick, Tick>, usize), Fault> {
-        let at = pass(text, at, b'(')?;
-        let (first, at) = tick(text, at)?;
-        let at = pass(text, at, b' ')?;
-        let (second, at) = tick(text, at)?;
-        let next = pass(text, at, b')')?;
-        Ok((Then { first, second }, next))
+    fn stamp(cursor: &mut Cursor<'_>) -> Result<Then<Tick, Tick>, ReadFault> {
+        cursor.pass(b'(')?;
+        let first = cursor.tick()?;
+        cursor.pass(b' ')?;
+        let second = cursor.tick()?;
+        cursor.pass(b')')?;
+        Ok(Then { first, second })
     }
 
-    fn spell(&self, sheet: &mut [u8], at: usize) -> usize {
-        let at = put(sheet, at, b"(");
-        let at = put_number(sheet, at, self.first.0 as usize);
-        let at = put(sheet, at, b" ");
-        let at = put_number(sheet, at, self.second.0 as usize);
-        put(sheet, at, b")")
+    fn spell(&self, sheet: &mut Sheet<'_>) {
+        sheet.put(b"(");
+        sheet.number(self.first.0 as usize);
+        sheet.put(b" ");
+        sheet.number(self.second.0 as usize);
+        sheet.put(b")");
     }
 }
 
@@ -108,20 +111,13 @@ impl Spelled for Route {
         b"route"
     }
 
-    fn stamp(text: &[u8], at: usize) -> Result<(Route, usize), Fault> {
-        let (more, next) = open_list(text, at)?;
-        let list = rising(text, more, next)?;
-        Ok((
-            Route {
-                aisles: list.aisles,
-            },
-            list.next,
-        ))
+    fn stamp(cursor: &mut Cursor<'_>) -> Result<Route, ReadFault> {
+        cursor.route()
     }
 
-    fn spell(&self, sheet: &mut [u8], at: usize) -> usize {
-        let at = put(sheet, at, b"(");
-        let at = put_aisles(sheet, at, self.aisles);
-        put(sheet, at, b")")
+    fn spell(&self, sheet: &mut Sheet<'_>) {
+        sheet.put(b"(");
+        put_aisles(sheet, self.aisles);
+        sheet.put(b")");
     }
 }

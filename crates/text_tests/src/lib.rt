@@ -23,7 +23,7 @@ use stamps::then::Then;
 use stamps::tick::Tick;
 use text::read::read;
 use text::stamp::Spelled;
-use writing::reply::reply;
+use writing::reply::{Tables, reply};
 
 // A stamp that stands in the tables before a text is read.
 trait Mark: Spelled {
@@ -197,14 +197,13 @@ fn replies(text: &[u8], expected: &[u8]) -> bool {
     let mut pairs = [mark_row::<Then<Tick, Tick>>(); 8];
     let mut rules = [mark_rule(); 8];
     let mut sheet = [b'#'; 512];
-    let length = reply(
-        text,
-        &mut ticks,
-        &mut routes,
-        &mut pairs,
-        &mut rules,
-        &mut sheet,
-    );
+    let tables = Tables {
+        ticks: &mut ticks,
+        routes: &mut routes,
+        pairs: &mut pairs,
+        rules: &mut rules,
+    };
+    let length = reply(text, tables, &mut sheet);
     if length > sheet.len() {
         return false;
     }

@@ -10,10 +10,6 @@ use Rattle.text.specs.Reads.{ReadInto}
 use Rattle.text.specs.declared.counts.Counts.{Counts}
 
 module _ {S : Type 0} (a₀ a : List (AtomRow S)) (b₀ b : List (Option RuleRow)) where
-  pub taken_refused : (found : Result (Meaning S) Fault) (e : Fault) → ReadInto found (Err e) a₀ a b₀ b → Err e ≡ found
-  taken_refused (Ok m) e h = let k = h.counts in let z : ◌≡◌ {A = ℕ} 0 1 = cc in absurd (omega arith)
-  taken_refused (Err d) e h = let k = h.fault in let same : e ≡ d = cc in ap Err same
-
   -- the rows that were read mean the book of the text
   abbrev pub Taken : Result (Meaning S) Fault → Counts → Type 0
   Taken found n = (n.atoms ≤ length a) × (n.rules ≤ length b) × (found ≡ Ok (flat_meaning (take n.atoms a) (take n.rules b)))

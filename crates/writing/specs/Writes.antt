@@ -4,9 +4,10 @@ use Rattle.books.specs.Check.{first_below}
 use Rattle.std.specs.Option.{option_and_then}
 use Rattle.books.specs.Meaning.{Meaning, rule_at, stamp_of, literal_of}
 use Rattle.books.specs.declared.fault.CheckFault.{CheckFault}
-use Rattle.books.specs.declared.fault.CheckFault.TheVariants.{TooLarge, BodyTooLong, HeadMissing, LiteralMissing, SheetTooShort}
+use Rattle.books.specs.declared.fault.CheckFault.TheVariants.{TooLarge, BodyTooLong, HeadMissing, LiteralMissing}
+use Rattle.books.specs.declared.fault.MakeFault.TheVariants.{SheetTooShort}
 use Rattle.books.specs.declared.fault.Fault.{Fault}
-use Rattle.books.specs.declared.fault.Fault.TheVariants.{Checking}
+use Rattle.books.specs.declared.fault.Fault.TheVariants.{Checking, Making}
 
 -- the fault, where the atom is not in the book
 abbrev pub missing : {S : Type 0} → Meaning S → CheckFault → ℕ → Option CheckFault
@@ -36,7 +37,7 @@ book_gap m =
 
 -- the length of the text, where the sheet is long enough
 abbrev pub fitting : ℕ → ℕ → Result ℕ Fault
-fitting needed room = cond (nat_lt room needed) (Err (Checking (SheetTooShort needed))) (Ok needed)
+fitting needed room = cond (nat_lt room needed) (Err (Making (SheetTooShort needed))) (Ok needed)
 
 -- the answer of a writer whose text is so long
 abbrev pub write_answer : Option CheckFault → ℕ → ℕ → Result ℕ Fault

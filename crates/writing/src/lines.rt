@@ -1,76 +1,46 @@
 // The lines of a book in canonical spelling.
-ghost use Rattle.std.specs.Prelude.{◌≡◌, ◌+◌, ◌^◌, ◌<◌, ◌≤◌, ◌++◌, length, None};
+ghost use Rattle.std.specs.Prelude.{◌≡◌, ◌+◌, ◌^◌, ◌<◌, ◌≤◌, length, None};
 ghost use Rattle.std.specs.List.{slice_get};
 ghost use Rattle.books.specs.Meaning.{rule_at};
-ghost use Rattle.text.specs.Spelt.{up_to, item, literal_in, item_in, body_text, count_or, Few, kind_text, atom_text, rule_text, atom_line_of, rule_line_of, book_text};
-ghost use Rattle.text.specs.Written.{Wrote};
+ghost use Rattle.text.specs.Spelt.{up_to, item, list_text, body_in, Few, kind_text, atom_text, rule_text, atom_line_of, rule_line_of, book_text};
+ghost use Rattle.text.specs.Written.{Wrote, Writes};
 
-use books::book::Book;
-use text::sheet::{put, put_number};
+use books::book::{Book, Sign};
+use text::sheet::Sheet;
 use text::stamp::Spelled;
 
-// Number `i` of the rule's positives, or of its negatives.
-fn literal_in<B: Book>(book: &B, rule: usize, positive: bool, i: usize) -> Option<usize>
-    ensures { result ≡ literal_in positive (rule_at (B.Book.meaning book.now) rule) i }
+// How many atoms of the sign the rule has; none where its number is vacant.
+fn count_in<B: Book>(book: &B, rule: usize, sign: Sign) -> usize
+    requires { Few (B.Book.meaning book.now) }
+    ensures value { result ≡ length (body_in sign (rule_at (B.Book.meaning book.now) rule)) }
+    ensures few { result ≤ 6 }
 {
-    if positive {
-        book.positive(rule, i)
-    } else {
-        book.negative(rule, i)
+    book.body_count(rule, sign).unwrap_or(0)
+}
+
+// Number `i` of a list, after a space unless it is the first.
+fn put_item(i: usize, atom: Option<usize>, sheet: &mut Sheet<'_>)
+    requires { sheet.old.at < 2 ^ 60 }
+    ensures wrote { Writes sheet.old (item i atom) sheet.new }
+    ensures short { sheet.new.at ≤ sheet.old.at + 21 }
+{
+    if let Some(atom) = atom {
+        sheet.list_number(i == 0, atom);
     }
 }
 
-// A number of a list, after a space unless it is the first.
-fn put_item(sheet: &mut [u8], at: usize, i: usize, atom: Option<usize>) -> usize
-    requires { at < 2 ^ 61 }
-    ensures wrote { Wrote sheet.old at (item i atom) sheet.new result }
-    ensures short { result ≤ at + 21 }
+// The rule's atoms of the sign, in brackets.
+fn put_body<B: Book>(book: &B, rule: usize, sign: Sign, sheet: &mut Sheet<'_>)
+    requires early { sheet.old.at < 2 ^ 59 }
+    requires few { Few (B.Book.meaning book.now) }
+    ensures wrote { Writes sheet.old (list_text (body_in sign (rule_at (B.Book.meaning book.now) rule))) sheet.new }
+    ensures short { sheet.new.at ≤ sheet.old.at + 128 }
 {
-    let Some(atom) = atom else {
-        return at;
-    };
-    if i == 0 {
-        return put_number(sheet, at, atom);
+    sheet.put(b"(");
+    for i in 0..count_in(book, rule, sign) {
+        put_item(i, book.body_atom(rule, sign, i), sheet);
     }
-    let at = put(sheet, at, b" ");
-    put_number(sheet, at, atom)
-}
-
-fn put_items<B: Book>(
-    book: &B,
-    rule: usize,
-    positive: bool,
-    count: usize,
-    sheet: &mut [u8],
-    at: usize,
-) -> usize
-    requires { (at < 2 ^ 60) × (count ≤ 6) }
-    ensures wrote { Wrote sheet.old at (up_to (item_in positive (rule_at (B.Book.meaning book.now) rule)) count) sheet.new result }
-    ensures short { result ≤ at + 126 }
-{
-    let mut next = at;
-    for i in 0..count {
-        next = put_item(sheet, next, i, literal_in(book, rule, positive, i));
-    }
-    next
-}
-
-// The rule's positives or negatives, in brackets.
-fn put_body<B: Book>(
-    book: &B,
-    rule: usize,
-    positive: bool,
-    count: usize,
-    sheet: &mut [u8],
-    at: usize,
-) -> usize
-    requires { (at < 2 ^ 59) × (count ≤ 6) }
-    ensures wrote { Wrote sheet.old at (body_text positive (rule_at (B.Book.meaning book.now) rule) count) sheet.new result }
-    ensures short { result ≤ at + 128 }
-{
-    let at = put(sheet, at, b"(");
-    let at = put_items(book, rule, positive, count, sheet, at);
-    put(sheet, at, b")")
+    sheet.put(b")");
 }
 
 fn kind_word(reading: bool) -> &'static [u8]
@@ -81,105 +51,95 @@ fn kind_word(reading: bool) -> &'static [u8]
 }
 
 // (atom N K S)
-fn put_atom<B: Book>(book: &B, atom: usize, sheet: &mut [u8], at: usize) -> usize
+fn put_atom_line<B: Book>(book: &B, atom: usize, sheet: &mut Sheet<'_>)
 where
     B::Stamp: Spelled,
-    requires { at < 2 ^ 58 }
-    ensures wrote { Wrote sheet.old at (atom_text B.Stamp.Spelled.spelt atom (slice_get (B.Book.meaning book.now).atoms atom)) sheet.new result }
-    ensures short { result ≤ at + 2100 }
+    requires { sheet.old.at < 2 ^ 58 }
+    ensures wrote { Writes sheet.old (atom_text B.Stamp.Spelled.spelt atom (slice_get (B.Book.meaning book.now).atoms atom)) sheet.new }
+    ensures short { sheet.new.at ≤ sheet.old.at + 2100 }
 {
-    let Some(stamp) = book.stamp(atom) else {
-        return at;
+    let (Some(stamp), Some(reading)) = (book.stamp(atom), book.reading(atom)) else {
+        return;
     };
-    let Some(reading) = book.reading(atom) else {
-        return at;
-    };
-    let at = put(sheet, at, b"(atom ");
-    let at = put_number(sheet, at, atom);
-    let at = put(sheet, at, kind_word(reading));
-    let at = stamp.spell(sheet, at);
-    put(sheet, at, b")\n")
+    sheet.put(b"(atom ");
+    sheet.number(atom);
+    sheet.put(kind_word(reading));
+    stamp.spell(sheet);
+    sheet.put(b")\n");
 }
 
 // (void N)
-fn put_void(sheet: &mut [u8], at: usize, rule: usize) -> usize
-    requires { at < 2 ^ 58 }
-    ensures wrote { Wrote sheet.old at (rule_text rule None) sheet.new result }
-    ensures short { result ≤ at + 400 }
+fn put_void_line(rule: usize, sheet: &mut Sheet<'_>)
+    requires { sheet.old.at < 2 ^ 58 }
+    ensures wrote { Writes sheet.old (rule_text rule None) sheet.new }
+    ensures short { sheet.new.at ≤ sheet.old.at + 400 }
 {
-    let at = put(sheet, at, b"(void ");
-    let at = put_number(sheet, at, rule);
-    put(sheet, at, b")\n")
-}
-
-fn count_or(count: Option<usize>) -> usize
-    ensures { result ≡ count_or count }
-{
-    match count {
-        Some(count) => count,
-        None => 0,
-    }
+    sheet.put(b"(void ");
+    sheet.number(rule);
+    sheet.put(b")\n");
 }
 
 // (rule N H (P..) (Q..)), or (void N) for a vacant number.
-fn put_rule<B: Book>(book: &B, rule: usize, sheet: &mut [u8], at: usize) -> usize
-    requires { (at < 2 ^ 58) × (Few (B.Book.meaning book.now)) }
-    ensures wrote { Wrote sheet.old at (rule_text rule (rule_at (B.Book.meaning book.now) rule)) sheet.new result }
-    ensures short { result ≤ at + 400 }
+fn put_rule_line<B: Book>(book: &B, rule: usize, sheet: &mut Sheet<'_>)
+    requires early { sheet.old.at < 2 ^ 58 }
+    requires few { Few (B.Book.meaning book.now) }
+    ensures wrote { Writes sheet.old (rule_text rule (rule_at (B.Book.meaning book.now) rule)) sheet.new }
+    ensures short { sheet.new.at ≤ sheet.old.at + 400 }
 {
     let Some(head) = book.head(rule) else {
-        return put_void(sheet, at, rule);
+        return put_void_line(rule, sheet);
     };
-    let positives = count_or(book.positive_count(rule));
-    let negatives = count_or(book.negative_count(rule));
-    let at = put(sheet, at, b"(rule ");
-    let at = put_number(sheet, at, rule);
-    let at = put(sheet, at, b" ");
-    let at = put_number(sheet, at, head);
-    let at = put(sheet, at, b" ");
-    let at = put_body(book, rule, true, positives, sheet, at);
-    let at = put(sheet, at, b" ");
-    let at = put_body(book, rule, false, negatives, sheet, at);
-    put(sheet, at, b")\n")
+    sheet.put(b"(rule ");
+    sheet.number(rule);
+    sheet.put(b" ");
+    sheet.number(head);
+    sheet.put(b" ");
+    put_body(book, rule, Sign::Positive, sheet);
+    sheet.put(b" ");
+    put_body(book, rule, Sign::Negative, sheet);
+    sheet.put(b")\n");
 }
 
-fn put_atoms<B: Book>(book: &B, sheet: &mut [u8], at: usize) -> usize
+fn put_atom_lines<B: Book>(book: &B, sheet: &mut Sheet<'_>)
 where
     B::Stamp: Spelled,
-    requires { (at < 2 ^ 40) × (length (B.Book.meaning book.now).atoms ≤ 1024) }
-    ensures wrote { Wrote sheet.old at (up_to (atom_line_of B.Stamp.Spelled.spelt (B.Book.meaning book.now)) (length (B.Book.meaning book.now).atoms)) sheet.new result }
-    ensures short { result ≤ at + 2150400 }
+    requires early { sheet.old.at < 2 ^ 40 }
+    requires atoms { length (B.Book.meaning book.now).atoms ≤ 1024 }
+    ensures wrote { Writes sheet.old (up_to (atom_line_of B.Stamp.Spelled.spelt (B.Book.meaning book.now)) (length (B.Book.meaning book.now).atoms)) sheet.new }
+    ensures short { sheet.new.at ≤ sheet.old.at + 2150400 }
 {
-    let mut next = at;
     for atom in 0..book.atom_count() {
-        next = put_atom(book, atom, sheet, next);
+        put_atom_line(book, atom, sheet);
     }
-    next
 }
 
-fn put_rules<B: Book>(book: &B, sheet: &mut [u8], at: usize) -> usize
-    requires { (at < 2 ^ 40) × ((length (B.Book.meaning book.now).rules ≤ 1024) × (Few (B.Book.meaning book.now))) }
-    ensures wrote { Wrote sheet.old at (up_to (rule_line_of (B.Book.meaning book.now)) (length (B.Book.meaning book.now).rules)) sheet.new result }
-    ensures short { result ≤ at + 409600 }
+fn put_rule_lines<B: Book>(book: &B, sheet: &mut Sheet<'_>)
+    requires early { sheet.old.at < 2 ^ 40 }
+    requires rules { length (B.Book.meaning book.now).rules ≤ 1024 }
+    requires few { Few (B.Book.meaning book.now) }
+    ensures wrote { Writes sheet.old (up_to (rule_line_of (B.Book.meaning book.now)) (length (B.Book.meaning book.now).rules)) sheet.new }
+    ensures short { sheet.new.at ≤ sheet.old.at + 409600 }
 {
-    let mut next = at;
     for rule in 0..book.rule_count() {
-        next = put_rule(book, rule, sheet, next);
+        put_rule_line(book, rule, sheet);
     }
-    next
 }
 
 // The whole book from the sheet's first byte on, and its length.
-pub fn put_book<B: Book>(book: &B, sheet: &mut [u8]) -> usize
+pub fn put_book<B: Book>(book: &B, bytes: &mut [u8]) -> usize
 where
     B::Stamp: Spelled,
-    requires { (length (B.Book.meaning book.now).atoms ≤ 1024) × ((length (B.Book.meaning book.now).rules ≤ 1024) × (Few (B.Book.meaning book.now))) }
-    ensures { Wrote sheet.old 0 (book_text B.Stamp.Spelled.spelling B.Stamp.Spelled.spelt (B.Book.meaning book.now)) sheet.new result }
+    requires atoms { length (B.Book.meaning book.now).atoms ≤ 1024 }
+    requires rules { length (B.Book.meaning book.now).rules ≤ 1024 }
+    requires few { Few (B.Book.meaning book.now) }
+    ensures { Wrote bytes.old 0 (book_text B.Stamp.Spelled.spelling B.Stamp.Spelled.spelt (B.Book.meaning book.now)) bytes.new result }
 {
-    let at = put(sheet, 0, b"(order ");
-    let at = put(sheet, at, B::Stamp::word());
-    let at = put(sheet, at, b")\n");
-    let at = put_atoms(book, sheet, at);
-    let at = put_rules(book, sheet, at);
-    put(sheet, at, b"(end)\n")
+    let mut sheet = Sheet { bytes, at: 0 };
+    sheet.put(b"(order ");
+    sheet.put(B::Stamp::word());
+    sheet.put(b")\n");
+    put_atom_lines(book, &mut sheet);
+    put_rule_lines(book, &mut sheet);
+    sheet.put(b"(end)\n");
+    sheet.at
 }

@@ -1,7 +1,7 @@
 // What the program that reads, checks and writes a book prints.
 ghost use Rattle.std.specs.Prelude.{◌≡◌, ◌+◌, ◌^◌, ◌<◌, ◌≤◌, length};
 ghost use Rattle.writing.specs.Replies.{values_text, refusal_text, program_at, Replied, reply_text};
-ghost use Rattle.text.specs.Written.{Wrote};
+ghost use Rattle.text.specs.Written.{Wrote, Writes};
 
 use crate::canonical::canonical;
 use books::fault::{Fault, ReadFault, Refusal, Values};
@@ -10,56 +10,66 @@ use stamps::route::Route;
 use stamps::then::Then;
 use stamps::tick::Tick;
 use text::order::{Word, order_refused, order_word};
-use text::sheet::{put, put_number};
+use text::sheet::Sheet;
 
 // The longest input that is read.
 pub const MAX_INPUT: usize = 65536;
 
-fn put_values(sheet: &mut [u8], at: usize, values: Values) -> usize
-    requires { at < 2 ^ 60 }
-    ensures wrote { Wrote sheet.old at (values_text values) sheet.new result }
-    ensures short { result ≤ at + 41 }
+// The tables that a book is read into, by the order of its stamps.
+#[derive(Drop)]
+pub struct Tables<'a> {
+    pub ticks: &'a mut [AtomRow<Tick>],
+    pub routes: &'a mut [AtomRow<Route>],
+    pub pairs: &'a mut [AtomRow<Then<Tick, Tick>>],
+    pub rules: &'a mut [Option<RuleRow>],
+}
+
+fn put_values(values: Values, sheet: &mut Sheet<'_>)
+    requires { sheet.old.at < 2 ^ 60 }
+    ensures wrote { Writes sheet.old (values_text values) sheet.new }
+    ensures short { sheet.new.at ≤ sheet.old.at + 41 }
 {
     match values {
-        Values::One(value) => put_number(sheet, at, value),
+        Values::One(value) => sheet.number(value),
         Values::RuleLiteral(rule, literal) => {
-            let at = put_number(sheet, at, rule);
-            let at = put(sheet, at, b" ");
-            put_number(sheet, at, literal)
+            sheet.number(rule);
+            sheet.put(b" ");
+            sheet.number(literal);
         }
     }
 }
 
 // (no C A), or (no C R L) where rule and literal are returned.
-fn put_refusal(sheet: &mut [u8], refusal: Refusal) -> usize
-    ensures { Wrote sheet.old 0 (refusal_text refusal) sheet.new result }
+fn put_refusal(refusal: Refusal, bytes: &mut [u8]) -> usize
+    ensures { Wrote bytes.old 0 (refusal_text refusal) bytes.new result }
 {
-    let at = put(sheet, 0, b"(no ");
-    let at = put_number(sheet, at, refusal.number as usize);
-    let at = put(sheet, at, b" ");
-    let at = put_values(sheet, at, refusal.values);
-    put(sheet, at, b")\n")
+    let mut sheet = Sheet { bytes, at: 0 };
+    sheet.put(b"(no ");
+    sheet.number(refusal.number as usize);
+    sheet.put(b" ");
+    put_values(refusal.values, &mut sheet);
+    sheet.put(b")\n");
+    sheet.at
 }
 
 // The input's book in canonical spelling, whatever its order.
-fn canonical_of(
-    text: &[u8],
-    ticks: &mut [AtomRow<Tick>],
-    routes: &mut [AtomRow<Route>],
-    pairs: &mut [AtomRow<Then<Tick, Tick>>],
-    rules: &mut [Option<RuleRow>],
-    sheet: &mut [u8],
-) -> Result<usize, Fault>
-    ensures { Replied (program_at text.now (length ticks.old) (length routes.old) (length pairs.old) (length rules.old) (length sheet.old)) result sheet.old sheet.new }
+#[tactic(auto, unfolding(crate::specs::Replies::program_at))]
+fn canonical_of(text: &[u8], tables: Tables<'_>, sheet: &mut [u8]) -> Result<usize, Fault>
+    ensures { Replied (program_at text.now (length tables.entry.ticks.now) (length tables.entry.routes.now) (length tables.entry.pairs.now) (length tables.entry.rules.now) (length sheet.old)) result sheet.old sheet.new }
 {
     if text.len() > MAX_INPUT {
-        return Err(Fault::Reading(ReadFault::TooMany { place: 0 }));
+        return Err(ReadFault::TooMany { place: 0 }.into());
     }
     let Some(word) = order_word(text) else {
-        return Err(Fault::Reading(ReadFault::Byte {
-            place: order_refused(text),
-        }));
+        let place = order_refused(text);
+        return Err(ReadFault::Byte { place }.into());
     };
+    let Tables {
+        ticks,
+        routes,
+        pairs,
+        rules,
+    } = tables;
     match word {
         Word::Tick => canonical(text, ticks, rules, sheet),
         Word::Route => canonical(text, routes, rules, sheet),
@@ -69,18 +79,11 @@ fn canonical_of(
 
 // Writes the input's canonical text, or one line with the refusal, from the sheet's first byte on, and answers its length.
 // What falls beyond the sheet's end is only counted.
-pub fn reply(
-    text: &[u8],
-    ticks: &mut [AtomRow<Tick>],
-    routes: &mut [AtomRow<Route>],
-    pairs: &mut [AtomRow<Then<Tick, Tick>>],
-    rules: &mut [Option<RuleRow>],
-    sheet: &mut [u8],
-) -> usize
-    ensures { Wrote sheet.old 0 (reply_text (program_at text.now (length ticks.old) (length routes.old) (length pairs.old) (length rules.old) (length sheet.old))) sheet.new result }
+pub fn reply(text: &[u8], tables: Tables<'_>, sheet: &mut [u8]) -> usize
+    ensures { Wrote sheet.old 0 (reply_text (program_at text.now (length tables.entry.ticks.now) (length tables.entry.routes.now) (length tables.entry.pairs.now) (length tables.entry.rules.now) (length sheet.old))) sheet.new result }
 {
-    match canonical_of(text, ticks, routes, pairs, rules, sheet) {
+    match canonical_of(text, tables, sheet) {
         Ok(length) => length,
-        Err(fault) => put_refusal(sheet, fault.refusal()),
+        Err(fault) => put_refusal(fault.refusal(), sheet),
     }
 }

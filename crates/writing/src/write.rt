@@ -6,7 +6,7 @@ ghost use Rattle.writing.specs.Writes.{book_gap, write_answer, sheet_after};
 use crate::gaps::check_gaps;
 use crate::lines::put_book;
 use books::book::Book;
-use books::fault::{CheckFault, Fault};
+use books::fault::{Fault, MakeFault};
 use text::stamp::Spelled;
 
 // Writes the book from the sheet's first byte on, and answers the text's length.
@@ -21,7 +21,7 @@ where
     let mut nothing = [0u8; 0];
     let needed = put_book(book, &mut nothing);
     if needed > sheet.len() {
-        return Err(Fault::Checking(CheckFault::SheetTooShort { needed }));
+        return Err(MakeFault::SheetTooShort { needed }.into());
     }
     Ok(put_book(book, sheet))
 }

@@ -1,10 +1,11 @@
-use Rattle.std.proofs.Common.{sym, refl}
+use Rattle.std.proofs.Common.{sym, rules}
 use Rattle.text.specs.Spelt.{book_text}
-use Rattle.text.proofs.Laid.{wrote_then, wrote_as}
+use Rattle.text.proofs.Laid.{writes_then, writes_as}
 use Rattle.writing.proofs.lines.put_book.Goals as goal
 
 pub returns : goal.returns
 unfolding book_text
 returns g c =
-    let word = wrote_as g.B.Stamp.Spelled.spelling _ _ (sym c.word.ensures.value) refl refl c.put-at-2.ensures in
-    wrote_then (wrote_then (wrote_then (wrote_then (wrote_then c.put-at.ensures word) c.put-at-3.ensures) c.put_atoms-at.ensures.wrote) c.put_rules-at.ensures.wrote) c.put.ensures
+    let word = writes_as g.B.Stamp.Spelled.spelling (sym c.word.ensures.value) c.put-2.ensures in
+    let w = writes_then (writes_then (writes_then (writes_then (writes_then c.put.ensures word) c.put-3.ensures) c.put_atom_lines.ensures.wrote) c.put_rule_lines.ensures.wrote) c.put-4.ensures in
+    search rules

@@ -1,22 +1,13 @@
-use Rattle.std.proofs.Common.{Some, None, sym, refl, ap, ◌∙◌}
-use Rattle.text.specs.Bytes.{wrong_at}
+use Rattle.std.proofs.Common.{Some, sym, ap, ◌∙◌}
 use Rattle.text.specs.declared.order.Word.TheVariants as word
-use Rattle.writing.proofs.Replying.{replied_refused, replied_as, program_long, program_is}
+use Rattle.writing.proofs.Replying.{replied_as, program_is}
 use Rattle.writing.proofs.reply.canonical_of.Goals as goal
+use Rattle.writing.proofs.reply.canonical_of.Goals.{in-Tick, in-Route, in-Then}
 
-pub returns-then-text-gt-MAX_INPUT : goal.returns-then-text-gt-MAX_INPUT
-returns-then-text-gt-MAX_INPUT c = replied_refused _ _ c.args.sheet.now _ (program_long c.args.text.now _ _ _ _ _ c.if-text-gt-MAX_INPUT.true) refl
-
-pub returns-in-Tick : goal.returns-in-Tick
-returns-in-Tick c = replied_as _ _ _ _ _ (program_is c.args.text.now _ _ _ _ _ (Some word.Tick) c.if-text-gt-MAX_INPUT.false (ap Some (sym c.in-Tick.is) ∙ c.in-Some.ensures)) c.canonical.ensures
-
-pub returns-in-Route : goal.returns-in-Route
-returns-in-Route c = replied_as _ _ _ _ _ (program_is c.args.text.now _ _ _ _ _ (Some word.Route) c.if-text-gt-MAX_INPUT.false (ap Some (sym c.in-Route.is) ∙ c.in-Some.ensures)) c.canonical-in-Route.ensures
-
-pub returns-in-Then : goal.returns-in-Then
-returns-in-Then c = replied_as _ _ _ _ _ (program_is c.args.text.now _ _ _ _ _ (Some word.Then) c.if-text-gt-MAX_INPUT.false (ap Some (sym c.in-Then.is) ∙ c.in-Some.ensures)) c.canonical-in-Then.ensures
-
-pub returns-in_default : goal.returns-in_default
-returns-in_default c =
-    let r = ap wrong_at c.order_refused.ensures in
-    replied_refused _ _ c.args.sheet.now _ (program_is c.args.text.now _ _ _ _ _ None c.if-text-gt-MAX_INPUT.false c.in_default.ensures) r
+pub returns : goal.returns
+returns c =
+    elim c.match-word.branch [
+      | in-Tick w ↦ rw (w.result-is, w.sheet-is) (replied_as _ _ _ _ _ (program_is c.args.text.now _ _ _ _ _ (Some word.Tick) c.if-text-gt-MAX_INPUT.false (ap Some (sym w.in-Tick.is) ∙ c.in-Some.ensures)) w.canonical.ensures)
+      | in-Route w ↦ rw (w.result-is, w.sheet-is) (replied_as _ _ _ _ _ (program_is c.args.text.now _ _ _ _ _ (Some word.Route) c.if-text-gt-MAX_INPUT.false (ap Some (sym w.in-Route.is) ∙ c.in-Some.ensures)) w.canonical-in-Route.ensures)
+      | in-Then w ↦ rw (w.result-is, w.sheet-is) (replied_as _ _ _ _ _ (program_is c.args.text.now _ _ _ _ _ (Some word.Then) c.if-text-gt-MAX_INPUT.false (ap Some (sym w.in-Then.is) ∙ c.in-Some.ensures)) w.canonical-in-Then.ensures)
+    ]

@@ -1,5 +1,8 @@
-use Rattle.text.proofs.Laid.{wrote_then}
+use Rattle.std.proofs.Common.{rules}
+use Rattle.text.proofs.Laid.{writes_then}
 use Rattle.writing.proofs.reply.put_refusal.Goals as goal
 
 pub returns : goal.returns
-returns c = wrote_then (wrote_then (wrote_then (wrote_then c.put-at.ensures c.put_number-at.ensures.wrote) c.put-at-2.ensures) c.put_values-at.ensures.wrote) c.put.ensures
+returns c =
+    let w = writes_then (writes_then (writes_then (writes_then c.put.ensures c.number.ensures.wrote) c.put-2.ensures) c.put_values.ensures.wrote) c.put-3.ensures in
+    search rules

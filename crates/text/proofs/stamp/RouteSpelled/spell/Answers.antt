@@ -1,10 +1,5 @@
-use Rattle.text.proofs.Laid.{wrote_then}
-use Rattle.std.proofs.Common.{arith}
+use Rattle.text.proofs.Laid.{writes_then}
 use Rattle.text.proofs.stamp.RouteSpelled.spell.Goals as goal
 
-pub returns : goal.returns
-returns c =
-    record {
-      wrote = wrote_then (wrote_then c.put-at.ensures c.put_aisles-at.ensures.wrote) c.put.ensures;
-      short = omega (arith, c.put-at.ensures.place, c.put_aisles-at.ensures.short, c.put.ensures.place);
-    }
+pub returns-clause-wrote : goal.returns-clause-wrote
+returns-clause-wrote c = writes_then (writes_then c.put.ensures c.put_aisles.ensures.wrote) c.put-2.ensures

@@ -1,0 +1,23 @@
+-- What a cursor reads, by the definitions over a text and a place.
+use Rattle.std.specs.Prelude.{◌≡◌, ℕ, Ok, Err, Result}
+use Rattle.books.specs.declared.fault.ReadFault.{ReadFault}
+use Rattle.books.specs.declared.fault.Fault.{Fault}
+use Rattle.books.specs.declared.fault.Fault.TheVariants.{Reading}
+use Rattle.text.specs.declared.cursor.Cursor.{Cursor}
+
+-- what is found is what was taken, with the place after it, in the same text; or it is the fault
+abbrev pub Takes : {X Y : Type 0} → (X → ℕ → Y) → Result X ReadFault → Cursor → Cursor → Result Y Fault → Type 0
+Takes with_place (Ok x) was is found = (Ok (with_place x is.at) ≡ found) × (is.text.now ≡ was.text.now)
+Takes with_place (Err e) was is found = Err (Reading e) ≡ found
+
+-- a place is found
+abbrev pub Passed : Result (Unit {0}) ReadFault → Cursor → Cursor → Result ℕ Fault → Type 0
+Passed = Takes (λ _ at. at)
+
+-- a value is found, and the place after it
+abbrev pub Took : {X : Type 0} → Result X ReadFault → Cursor → Cursor → Result (X × ℕ) Fault → Type 0
+Took = Takes (λ x at. (x, at))
+
+-- the same, of what the value is seen as
+abbrev pub TookAs : {X Y : Type 0} → (X → Y) → Result X ReadFault → Cursor → Cursor → Result (Y × ℕ) Fault → Type 0
+TookAs view = Takes (λ x at. (view x, at))

@@ -1,0 +1,5 @@
+use Rattle.text.proofs.Laid.{writes_then}
+use Rattle.writing.proofs.lines.put_void_line.Goals as goal
+
+pub returns-clause-wrote : goal.returns-clause-wrote
+returns-clause-wrote c = writes_then (writes_then c.put.ensures c.number.ensures.wrote) c.put-2.ensures
