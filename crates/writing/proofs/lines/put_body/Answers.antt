@@ -1,7 +1,7 @@
 use Rattle.std.proofs.Common.{◌≡◌, length, sym, ap, ◌∙◌, arith}
 use Rattle.books.specs.Meaning.{rule_at}
 use Rattle.text.specs.Spelt.{item, body_in}
-use Rattle.text.proofs.Laid.{writes_start, writes_then, writes_more, writes_as}
+use Rattle.text.proofs.Laid.{writes_start, ◌then◌, writes_more, writes_as}
 use Rattle.writing.proofs.Lined.{atom_in_body}
 use Rattle.writing.proofs.lines.put_body.Goals as goal
 
@@ -19,4 +19,4 @@ pub returns-clause-wrote : goal.returns-clause-wrote
 returns-clause-wrote g c =
     let done : c.loop-i.i ≡ length (body_in c.args.sign (rule_at (g.B.Book.meaning c.args.book.now) c.args.rule)) = omega arith in
     let items = rw done at c.loop-i.invariant.written in
-    writes_then (writes_then c.put.ensures items) c.put-2.ensures
+    c.put.ensures then items then c.put-2.ensures
