@@ -15,7 +15,7 @@ mod seven;
 #[cfg(test)]
 mod sheets;
 
-use books::fault::{Fault, Refusal, Values};
+use books::fault::{Fault, Layer, Refusal, Values};
 use makes::body::Body;
 use makes::rows::{AtomRow, RuleRow};
 use stamps::route::Route;
@@ -118,15 +118,21 @@ fn is_rule(row: &Option<RuleRow>, head: usize, positives: &[usize], negatives: &
     })
 }
 
-// The text is refused with this number at this place, and the tables stay.
-fn refused_at(refusal: Option<Refusal>, number: u8, place: usize) -> bool {
-    refusal.is_some_and(|refusal| refusal.number == number && refusal.values == Values::One(place))
+// A refusal of the reader, with the place of the fault.
+fn refused_at(number: u8, place: usize) -> Option<Refusal> {
+    Some(Refusal {
+        layer: Layer::Reading,
+        number,
+        values: Values::One(place),
+    })
 }
 
-// The text is refused with 4 at this rule and literal, and the tables stay.
-fn undeclared(text: &[u8], rule: usize, literal: usize) -> bool {
-    tick_refusal(text).is_some_and(|refusal| {
-        refusal.number == 4 && refusal.values == Values::RuleLiteral(rule, literal)
+// The refusal of an atom that the text does not have, at this rule and literal.
+fn undeclared(rule: usize, literal: usize) -> Option<Refusal> {
+    Some(Refusal {
+        layer: Layer::Reading,
+        number: 4,
+        values: Values::RuleLiteral(rule, literal),
     })
 }
 
