@@ -9,7 +9,7 @@ use Rattle.books.specs.declared.fault.Fault.TheVariants.{Reading, Checking, Maki
 use Rattle.text.specs.Bytes.{and_then, pass_at, pass_if, wrong_at}
 use Rattle.text.specs.Words.{pass_word}
 use Rattle.grammar.specs.Pieces.{Care, shape, kept, plain, Kept, Exactly, Followed}
-use Rattle.grammar.proofs.Agreement.{AtByte, Same, Shared, Between, Seen, Reads, Agrees}
+use Rattle.grammar.specs.Agreement.{AtByte, Same, Shared, Between, Seen, Reads, Agrees}
 use Rattle.grammar.proofs.Following.{word_to, word_from}
 use Rattle.grammar.proofs.Places.{slice_get_front, drop_past, between_join, between_none, between_one}
 

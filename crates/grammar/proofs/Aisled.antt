@@ -13,16 +13,16 @@ use Rattle.text.specs.Numbers.{number_at}
 use Rattle.text.specs.Stamps.{Aisles, one_aisle, aisles_at, route_at}
 use Rattle.text.specs.Turns.{turns, tries}
 use Rattle.text.specs.Words.{is_byte}
-use Rattle.grammar.specs.Pieces.{Care, Kept, Numeral, Spaced}
+use Rattle.grammar.specs.Pieces.{Care}
 use Rattle.grammar.specs.Stamps.{RouteSpelt, RisingFrom, with_aisles}
-use Rattle.grammar.proofs.Agreement.{Agrees}
+use Rattle.grammar.specs.Agreement.{Agrees}
 use Rattle.grammar.proofs.Agreeing.{Any, Via, then_then, agrees_same, agrees_as, agrees_then, agrees_done}
-use Rattle.grammar.proofs.Canonical.{list_within}
-use Rattle.grammar.proofs.Following.{followed_map, ended, unended}
-use Rattle.grammar.proofs.Keeping.{kept_map, kept_both}
+use Rattle.grammar.proofs.Following.{ended, unended}
+use Rattle.grammar.proofs.Keeping.{kept_map, kept_both, list_under, as_it_is, list_within}
 use Rattle.grammar.proofs.Lists.{run, adds, Passes, Bracketed, listed, list_agrees}
-use Rattle.grammar.proofs.Numbers.{number_limited}
+use Rattle.grammar.proofs.Numbers.{number_limited, unlimited}
 use Rattle.grammar.proofs.Turning.{tries_first, tries_stay, onward_same, open_same}
+use Rattle.std.proofs.ByRecursion.{All-weaker}
 
 -- the mask so far, and the least aisle that may follow
 abbrev State : Type 0
@@ -48,7 +48,7 @@ abbrev Enough : ℕ → State → Type 0
 Enough n s = 65 ≤ s.1 + n
 
 abbrev running : ℕ → State → List ℕ → ℕ → Result (State × ℕ) Fault
-running = run 9999999999 add over falling too_high not_rising
+running = run unlimited add over falling too_high not_rising
 
 abbrev finish : Result Aisles Fault → Result (State × ℕ) Fault
 finish r = and_then r (λ a. Ok ((a.aisles, a.least), a.next))
@@ -94,7 +94,7 @@ module _ (text : List ℕ) where
   rest_same (suc n) s at =
       ap finish (tries_first (one_aisle text) (state s true at) n)
       ∙ ap (λ r. finish (and_then (and_then r (aisle s at)) (λ y. tries (one_aisle text) y n))) (number_limited text at 63)
-      ∙ turn_by n s at (number_at text at 9999999999) (λ v m. rest_same n (add s v) m)
+      ∙ turn_by n s at (number_at text at unlimited) (λ v m. rest_same n (add s v) m)
 
 enough_next : (n : ℕ) (s : State) (v : ℕ) → falling s v ≡ false → Enough (suc (suc n)) s → Enough (suc n) (add s v)
 enough_next n s v e h = omega (arith, h, ltb-false v s.1 e)
@@ -107,7 +107,7 @@ enough_last s v h =
     ]
 
 abbrev whole : List ℕ → ℕ → Result (State × ℕ) Fault
-whole = listed 9999999999 add over falling too_high not_rising (λ at s v. tt) (λ at s v. tt) Enough enough_next enough_last 64 (0, 0)
+whole = listed unlimited add over falling too_high not_rising (λ at s v. tt) (λ at s v. tt) Enough enough_next enough_last 64 (0, 0)
 
 abbrev route : State → Route
 route s = record { aisles = s.0 }
@@ -127,26 +127,8 @@ route_same text at =
         ∙ ap (λ r. and_then r (λ p. Ok (route p.0, p.1))) (open_same (0, 0) (running 65 (0, 0) text) (λ q. rest text 65 (0, 0) q.0 q.1) (λ k. rest_same text 65 (0, 0) k) (λ k. rest_ended text 65 (0, 0) k) m (slice_get text m))
     by_place (Err e) = refl
 
--- numbers within a lower limit, and within a higher one with the lower one besides
-lower : (c : Care) (ns text : List ℕ) → Spaced c 9999999999 ns text → Kept c (AllByRecursion (λ n. n ≤ 63) ns) → Spaced c 63 ns text
-lower c [] text h k = h
-lower c (n ∷ []) text h k = lowered c n text h (kept_map c (λ a. a.0) k)
-  where
-    lowered : (c : Care) (n : ℕ) (text : List ℕ) → Numeral c 9999999999 n text → Kept c (n ≤ 63) → Numeral c 63 n text
-    lowered c n text h k = record { digits = h.digits; some = h.some; few = h.few; means = h.means; within = k; plainly = h.plainly }
-lower c (n ∷ m ∷ ns) text h k =
-    followed_map _ _ _ _ text (λ t g. record { digits = g.digits; some = g.some; few = g.few; means = g.means; within = kept_map c (λ a. a.0) k; plainly = g.plainly })
-    (λ t. followed_map _ _ _ _ t (λ u e. e) (λ u g. lower c (m ∷ ns) u g (kept_map c (λ a. a.1) k))) h
-
-higher : (c : Care) (ns text : List ℕ) → Spaced c 63 ns text → Spaced c 9999999999 ns text
-higher c [] text h = h
-higher c (n ∷ []) text h = record { digits = h.digits; some = h.some; few = h.few; means = h.means; within = kept_map c (λ l. omega (arith, l)) h.within; plainly = h.plainly }
-higher c (n ∷ m ∷ ns) text h =
-    followed_map _ _ _ _ text (λ t g. record { digits = g.digits; some = g.some; few = g.few; means = g.means; within = kept_map c (λ l. omega (arith, l)) g.within; plainly = g.plainly })
-    (λ t. followed_map _ _ _ _ t (λ u e. e) (higher c (m ∷ ns))) h
-
 abbrev Pass : State → List ℕ → Type 0
-Pass = Passes 9999999999 add over falling too_high not_rising
+Pass = Passes unlimited add over falling too_high not_rising
 
 pass_high : (s : State) (ks : List ℕ) → Pass s ks → AllByRecursion (λ k. k ≤ 63) ks
 pass_high s [] h = tt
@@ -161,12 +143,12 @@ passes s [] a r = tt
 passes s (k ∷ ks) a r = (le-ltb 63 k a.0, le-ltb k s.1 r.0, passes (add s k) ks a.1 r.1)
 
 -- the mask of the aisles added one by one
-adds_mask : (s : State) (ks : List ℕ) → (adds 9999999999 add over falling too_high not_rising s ks).0 ≡ with_aisles s.0 ks
+adds_mask : (s : State) (ks : List ℕ) → (adds unlimited add over falling too_high not_rising s ks).0 ≡ with_aisles s.0 ks
 adds_mask s [] = refl
 adds_mask s (k ∷ ks) = adds_mask (add s k) ks
 
 abbrev Aisling : Care → State → List ℕ → Type 0
-Aisling c t text = Bracketed 9999999999 add over falling too_high not_rising c (0, 0) t text
+Aisling c t text = Bracketed unlimited add over falling too_high not_rising c (0, 0) t text
 
 abbrev Routed : State → Care → Route → List ℕ → Type 0
 Routed t c r piece = (r ≡ route t) × (piece ≡ [])
@@ -176,18 +158,17 @@ route_agrees =
     agrees_same _ route_at RouteSpelt Any route_same
     (agrees_as _ (Via Aisling Routed) RouteSpelt Any to from
     (agrees_then whole (λ at t text m. Ok (route t, m)) Aisling Routed Any Any
-    (list_agrees 9999999999 add over falling too_high not_rising (λ at s v. tt) (λ at s v. tt) Enough enough_next enough_last 64 (0, 0) (omega arith))
+    (list_agrees unlimited add over falling too_high not_rising (λ at s v. tt) (λ at s v. tt) Enough enough_next enough_last 64 (0, 0) (omega arith))
     (λ at t. agrees_done (route t) Any) (λ c t r piece rest g s. tt)))
   where
     to : (c : Care) (r : Route) (text : List ℕ) → Via Aisling Routed c r text → RouteSpelt c r text
     to c r text v =
         let b = ended (λ p. Aisling c v.value p) (r ≡ route v.value) text v.parts in
         let ks = b.numbers in
-        let f = b.spelt in
         let mask : r.aisles ≡ with_aisles 0 ks = ap (λ (x : Route). x.aisles) v.parts.second.0 ∙ ap (λ (x : State). x.0) b.means ∙ adds_mask (0, 0) ks in
         record {
           aisles = ks;
-          listed = followed_map _ _ _ _ text (λ t e. e) (λ t. followed_map _ _ _ _ t (λ u g. lower c ks u g (kept_map c (pass_high (0, 0) ks) b.passes)) (λ u e. e)) f;
+          listed = list_under (as_it_is c) unlimited 63 ks text (kept_map c (pass_high (0, 0) ks) b.passes) b.spelt;
           rising = kept_map c (pass_rising (0, 0) ks) b.passes;
           means = mask;
         }
@@ -195,13 +176,14 @@ route_agrees =
     from : (c : Care) (r : Route) (text : List ℕ) → RouteSpelt c r text → Via Aisling Routed c r text
     from c r text s =
         let ks = s.aisles in
-        let t = adds 9999999999 add over falling too_high not_rising (0, 0) ks in
+        let t = adds unlimited add over falling too_high not_rising (0, 0) ks in
         let mask : r.aisles ≡ t.0 = s.means ∙ sym (adds_mask (0, 0) ks) in
         let same : r ≡ route t = ap (λ (x : ℕ). record { aisles = x }) mask in
+        let low = list_within c 63 ks text s.listed in
         let b : Aisling c t text = record {
           numbers = ks;
-          spelt = followed_map _ _ _ _ text (λ u e. e) (λ u. followed_map _ _ _ _ u (higher c ks) (λ w e. e)) s.listed;
-          passes = kept_map c (λ h. passes (0, 0) ks h.0 h.1) (kept_both (AllByRecursion (λ k. k ≤ 63) ks) (RisingFrom 0 ks) c (list_within c 63 ks text s.listed) s.rising);
+          spelt = list_under (as_it_is c) 63 unlimited ks text (kept_map c (All-weaker (λ k. k ≤ 63) (λ k. k ≤ unlimited) (λ k l. omega arith) ks) low) s.listed;
+          passes = kept_map c (λ h. passes (0, 0) ks h.0 h.1) (kept_both (AllByRecursion (λ k. k ≤ 63) ks) (RisingFrom 0 ks) c low s.rising);
           means = refl;
         } in
         record { value = t; parts = unended (λ p. Aisling c t p) (r ≡ route t) text same b }

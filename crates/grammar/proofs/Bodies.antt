@@ -13,9 +13,9 @@ use Rattle.text.specs.Rules.{Listed, extended, one_literal, body_at}
 use Rattle.text.specs.Turns.{turns, tries}
 use Rattle.text.specs.Words.{is_byte}
 use Rattle.text.specs.declared.site.Site.{Site}
-use Rattle.grammar.specs.Pieces.{Care}
+use Rattle.grammar.specs.Pieces.{Care, largest}
 use Rattle.grammar.specs.Grammar.{Body}
-use Rattle.grammar.proofs.Agreement.{Agrees}
+use Rattle.grammar.specs.Agreement.{Agrees}
 use Rattle.grammar.proofs.Agreeing.{Any, then_then, agrees_same, agrees_as}
 use Rattle.grammar.proofs.Keeping.{kept_map, kept_both}
 use Rattle.grammar.proofs.Lists.{run, adds, Passes, Bracketed, listed, list_agrees}
@@ -41,7 +41,7 @@ module _ (site : Site) (before : ℕ) where
   Few n s = length s + n ≡ 7
 
   abbrev running : ℕ → List ℕ → List ℕ → ℕ → Result (List ℕ × ℕ) Fault
-  running = run 4294967295 add full unknown many missing
+  running = run largest add full unknown many missing
 
   abbrev finish : Result Listed Fault → Result (List ℕ × ℕ) Fault
   finish r = and_then r (λ l. Ok (l.atoms, l.next))
@@ -79,7 +79,7 @@ module _ (site : Site) (before : ℕ) where
     rest_same : (n : ℕ) (s : List ℕ) (at : ℕ) → rest n s true at ≡ running n s text at
     unfolding turns run
     rest_same zero s at = refl
-    rest_same (suc n) s at = ap finish (tries_first (one_literal text site before) (state s true at) n) ∙ turn_by n s at (number_at text at 4294967295) (λ v m. rest_same n (add s v) m)
+    rest_same (suc n) s at = ap finish (tries_first (one_literal text site before) (state s true at) n) ∙ turn_by n s at (number_at text at largest) (λ v m. rest_same n (add s v) m)
 
   enough_next : (n : ℕ) (s : List ℕ) (v : ℕ) → unknown s v ≡ false → Few (suc (suc n)) s → Few (suc n) (add s v)
   enough_next n s v e h = omega (arith, h, length_push s v)
@@ -88,7 +88,7 @@ module _ (site : Site) (before : ℕ) where
   enough_last s v h = let six : 6 ≤ length s = omega (arith, h) in inl (le-leb 6 (length s) six)
 
   abbrev whole : List ℕ → ℕ → Result (List ℕ × ℕ) Fault
-  whole = listed 4294967295 add full unknown many missing (λ at s v. tt) (λ at s v. tt) Few enough_next enough_last 6 []
+  whole = listed largest add full unknown many missing (λ at s v. tt) (λ at s v. tt) Few enough_next enough_last 6 []
 
   body_same : (text : List ℕ) (at : ℕ) → whole text at ≡ body_at text site before at
   unfolding body_at open_at
@@ -101,12 +101,12 @@ module _ (site : Site) (before : ℕ) where
       by_place (Err e) = refl
 
   -- the numbers are added one by one
-  adds_all : (s vs : List ℕ) → adds 4294967295 add full unknown many missing s vs ≡ s ++ vs
+  adds_all : (s vs : List ℕ) → adds largest add full unknown many missing s vs ≡ s ++ vs
   adds_all s [] = sym (append-nil s)
   adds_all s (v ∷ vs) = adds_all (add s v) vs ∙ append_assoc s (v ∷ []) vs
 
   abbrev Pass : List ℕ → List ℕ → Type 0
-  Pass = Passes 4294967295 add full unknown many missing
+  Pass = Passes largest add full unknown many missing
 
   pass_few : (s vs : List ℕ) → length s ≤ 6 → Pass s vs → length s + length vs ≤ 6
   pass_few s [] l h = omega (arith, l)
@@ -133,14 +133,14 @@ module _ (site : Site) (before : ℕ) where
   body_agrees =
       agrees_same whole _ _ Any body_same
       (agrees_as whole _ (λ c ns text. Body c site.atoms ns text) Any to from
-      (list_agrees 4294967295 add full unknown many missing (λ at s v. tt) (λ at s v. tt) Few enough_next enough_last 6 [] (omega arith)))
+      (list_agrees largest add full unknown many missing (λ at s v. tt) (λ at s v. tt) Few enough_next enough_last 6 [] (omega arith)))
     where
-      to : (c : Care) (ns text : List ℕ) → Bracketed 4294967295 add full unknown many missing c [] ns text → Body c site.atoms ns text
+      to : (c : Care) (ns text : List ℕ) → Bracketed largest add full unknown many missing c [] ns text → Body c site.atoms ns text
       to c ns text b =
           let same : ns ≡ b.numbers = b.means ∙ adds_all [] b.numbers in
           subst (λ xs. Body c site.atoms xs text) (sym same)
           (record { listed = b.spelt; few = kept_map c (few b.numbers) b.passes; declared = kept_map c (λ h. pass_known [] b.numbers h) b.passes })
 
-      from : (c : Care) (ns text : List ℕ) → Body c site.atoms ns text → Bracketed 4294967295 add full unknown many missing c [] ns text
+      from : (c : Care) (ns text : List ℕ) → Body c site.atoms ns text → Bracketed largest add full unknown many missing c [] ns text
       from c ns text b =
           record { numbers = ns; spelt = b.listed; passes = kept_map c (λ h. passes [] ns (omega (arith, h.0)) h.1) (kept_both (length ns ≤ 6) (AllByRecursion (λ n. n < site.atoms) ns) c b.few b.declared); means = sym (adds_all [] ns) }

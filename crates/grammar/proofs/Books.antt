@@ -5,19 +5,15 @@ use Rattle.std.proofs.lemmas.List.{append_assoc}
 use Rattle.std.specs.List.{slice_get, AllByRecursion}
 use Rattle.std.specs.Option.{option_flatten}
 use Rattle.books.specs.Meaning.{Rule, Atom, Meaning}
-use Rattle.stamps.specs.declared.tick.Tick.{Tick}
-use Rattle.stamps.specs.declared.route.Route.{Route}
-use Rattle.stamps.specs.declared.then.Then.{Then}
 use Rattle.text.specs.Forms.{closing}
 use Rattle.text.specs.Kinds.{order_opening, atom_opening, rule_opening, void_opening}
 use Rattle.text.specs.Spelt.{up_to, space, list_text, kind_text, atom_text, rule_text, rule_line_of, end_text, book_text}
 use Rattle.writing.proofs.Gapless.{small_atoms, small_rules}
 use Rattle.writing.specs.Writes.{book_gap}
-use Rattle.grammar.specs.Pieces.{Care, kept, plain, Exactly, Numeral, Spaced, Listed}
+use Rattle.grammar.specs.Pieces.{Care, kept, plain, Exactly, largest}
 use Rattle.grammar.specs.Grammar.{Numbered, Declared, Body, AtomForm, RuleForm, AtomForms, RuleForms, Spells}
-use Rattle.grammar.specs.Stamps.{TickSpelt, PairSpelt, RouteSpelt}
 use Rattle.grammar.proofs.Canonical.{numeral_canonical, numeral_unique, list_canonical, list_unique, up_to_same, up_to_first}
-use Rattle.grammar.proofs.Following.{followed_by, followed_unique, followed_map}
+use Rattle.grammar.proofs.Following.{followed_by, followed_unique}
 use Rattle.grammar.proofs.Gaps.{GaplessRule, GaplessRow, gap_rules, rules_gapless}
 
 -- what f gives of each thing and its number, one after another from number k on
@@ -41,27 +37,27 @@ lines_text f xs =
     up_to_same _ _ (λ i. ap (λ n. f n (slice_get xs i)) (same i)) (length xs) ∙ lines_on f 0 xs
 
 numbered_canonical : (k : ℕ) → k < 1024 → Numbered plain k (decimal k)
-numbered_canonical k l = record { number = k; spelt = numeral_canonical 4294967295 k (omega arith) (omega arith); next = refl }
+numbered_canonical k l = record { number = k; spelt = numeral_canonical largest k (omega arith) (omega arith); next = refl }
 
 numbered_unique : (k : ℕ) (text : List ℕ) → Numbered plain k text → text ≡ decimal k
-numbered_unique k text h = numeral_unique 4294967295 h.number text h.spelt ∙ ap decimal h.next
+numbered_unique k text h = numeral_unique largest h.number text h.spelt ∙ ap decimal h.next
 
 declared_canonical : (atoms n : ℕ) → atoms ≤ 1024 → n < atoms → Declared plain atoms n (decimal n)
-declared_canonical atoms n l h = record { spelt = numeral_canonical 4294967295 n (omega arith) (omega arith); declared = h }
+declared_canonical atoms n l h = record { spelt = numeral_canonical largest n (omega arith) (omega arith); declared = h }
 
 declared_unique : (atoms n : ℕ) (text : List ℕ) → Declared plain atoms n text → text ≡ decimal n
-declared_unique atoms n text h = numeral_unique 4294967295 n text h.spelt
+declared_unique atoms n text h = numeral_unique largest n text h.spelt
 
 body_canonical : (atoms : ℕ) (ns : List ℕ) → atoms ≤ 1024 → length ns ≤ 6 → AllByRecursion (λ n. n < atoms) ns → Body plain atoms ns (list_text ns)
 body_canonical atoms ns l few h =
     record {
-      listed = list_canonical 4294967295 ns (omega arith) (All-weaker (λ n. n < atoms) (λ n. n ≤ 4294967295) (λ n b. omega arith) ns h);
+      listed = list_canonical largest ns (omega arith) (All-weaker (λ n. n < atoms) (λ n. n ≤ largest) (λ n b. omega arith) ns h);
       few = few;
       declared = h;
     }
 
 body_unique : (atoms : ℕ) (ns text : List ℕ) → Body plain atoms ns text → text ≡ list_text ns
-body_unique atoms ns text h = list_unique 4294967295 ns text h.listed
+body_unique atoms ns text h = list_unique largest ns text h.listed
 
 exactly_unique : (word text : List ℕ) → Exactly word text → text ≡ word
 exactly_unique word text e = e
@@ -152,57 +148,6 @@ rule_line_gapless atoms k (Some r) text h =
 rules_sound : (atoms k : ℕ) (os : List (Option Rule)) (text : List ℕ) → RuleForms kept atoms k os text → AllByRecursion (GaplessRow atoms) os
 rules_sound atoms k [] text h = tt
 rules_sound atoms k (o ∷ os) text h = (rule_line_gapless atoms k o h.front h.first, rules_sound atoms (k + 1) os h.back h.second)
-
-pub numeral_plain_kept : (limit n : ℕ) (text : List ℕ) → Numeral plain limit n text → Numeral kept limit n text
-numeral_plain_kept limit n text h = record { digits = h.digits; some = h.some; few = h.few; means = h.means; within = h.within; plainly = tt }
-
-spaced_plain_kept : (limit : ℕ) (ns text : List ℕ) → Spaced plain limit ns text → Spaced kept limit ns text
-spaced_plain_kept limit [] text h = h
-spaced_plain_kept limit (n ∷ []) text h = numeral_plain_kept limit n text h
-spaced_plain_kept limit (n ∷ m ∷ ns) text h =
-    followed_map _ _ _ _ text (numeral_plain_kept limit n) (λ t. followed_map _ _ _ _ t (λ u e. e) (spaced_plain_kept limit (m ∷ ns))) h
-
-pub list_plain_kept : (limit : ℕ) (ns text : List ℕ) → Listed plain limit ns text → Listed kept limit ns text
-list_plain_kept limit ns text h = followed_map _ _ _ _ text (λ t e. e) (λ t. followed_map _ _ _ _ t (spaced_plain_kept limit ns) (λ u e. e)) h
-
-pub tick_plain_kept : (t : Tick) (text : List ℕ) → TickSpelt plain t text → TickSpelt kept t text
-tick_plain_kept t text h = numeral_plain_kept 4294967295 t.0 text h
-
-pub pair_plain_kept : (p : Then Tick Tick) (text : List ℕ) → PairSpelt plain p text → PairSpelt kept p text
-pair_plain_kept p text h =
-    followed_map _ _ _ _ text (λ t e. e)
-    (λ t. followed_map _ _ _ _ t (tick_plain_kept p.first)
-    (λ t. followed_map _ _ _ _ t (λ u e. e)
-    (λ t. followed_map _ _ _ _ t (tick_plain_kept p.second) (λ u e. e)))) h
-
-pub route_plain_kept : (r : Route) (text : List ℕ) → RouteSpelt plain r text → RouteSpelt kept r text
-route_plain_kept r text h = record { aisles = h.aisles; listed = list_plain_kept 63 h.aisles text h.listed; rising = h.rising; means = h.means }
-
-numbered_plain_kept : (k : ℕ) (text : List ℕ) → Numbered plain k text → Numbered kept k text
-numbered_plain_kept k text h = record { number = h.number; spelt = numeral_plain_kept 4294967295 h.number text h.spelt; next = h.next }
-
-declared_plain_kept : (atoms n : ℕ) (text : List ℕ) → Declared plain atoms n text → Declared kept atoms n text
-declared_plain_kept atoms n text h = record { spelt = numeral_plain_kept 4294967295 n text h.spelt; declared = h.declared }
-
-pub body_plain_kept : (atoms : ℕ) (ns text : List ℕ) → Body plain atoms ns text → Body kept atoms ns text
-body_plain_kept atoms ns text h = record { listed = list_plain_kept 4294967295 ns text h.listed; few = h.few; declared = h.declared }
-
-rule_plain_kept : (atoms k : ℕ) (o : Option Rule) (text : List ℕ) → RuleForm plain atoms k o text → RuleForm kept atoms k o text
-rule_plain_kept atoms k None text h =
-    followed_map _ _ _ _ text (λ t e. e) (λ t. followed_map _ _ _ _ t (numbered_plain_kept k) (λ u e. e)) h
-rule_plain_kept atoms k (Some r) text h =
-    followed_map _ _ _ _ text (λ t e. e)
-    (λ t. followed_map _ _ _ _ t (numbered_plain_kept k)
-    (λ t. followed_map _ _ _ _ t (λ u e. e)
-    (λ t. followed_map _ _ _ _ t (declared_plain_kept atoms r.head)
-    (λ t. followed_map _ _ _ _ t (λ u e. e)
-    (λ t. followed_map _ _ _ _ t (body_plain_kept atoms r.positives)
-    (λ t. followed_map _ _ _ _ t (λ u e. e)
-    (λ t. followed_map _ _ _ _ t (body_plain_kept atoms r.negatives) (λ u e. e)))))))) h
-
-rules_plain_kept : (atoms k : ℕ) (os : List (Option Rule)) (text : List ℕ) → RuleForms plain atoms k os text → RuleForms kept atoms k os text
-rules_plain_kept atoms k [] text h = h
-rules_plain_kept atoms k (o ∷ os) text h = followed_map _ _ _ _ text (rule_plain_kept atoms k o) (rules_plain_kept atoms (k + 1) os) h
 
 module _ {S : Type 0} (word : List ℕ) (spells : Care → S → List ℕ → Type 0) (spelt : S → List ℕ) (Fits : S → Type 0) where
   abbrev atom_line : ℕ → Atom S → List ℕ
@@ -296,21 +241,3 @@ module _ {S : Type 0} (word : List ℕ) (spells : Care → S → List ℕ → Ty
   spelt_gapless m text h a b =
       let ruled = h.second.second in
       rules_gapless m a b (rules_sound (length m.atoms) 0 m.rules ruled.front ruled.first)
-
-  atom_plain_kept : ((s : S) (text : List ℕ) → spells plain s text → spells kept s text) → (i : ℕ) (a : Atom S) (text : List ℕ) → AtomForm spells plain i a text → AtomForm spells kept i a text
-  atom_plain_kept s i a text h =
-      followed_map _ _ _ _ text (λ t e. e)
-      (λ t. followed_map _ _ _ _ t (numbered_plain_kept i)
-      (λ t. followed_map _ _ _ _ t (λ u e. e)
-      (λ t. followed_map _ _ _ _ t (s a.stamp) (λ u e. e)))) h
-
-  atoms_plain_kept : ((s : S) (text : List ℕ) → spells plain s text → spells kept s text) → (i : ℕ) (xs : List (Atom S)) (text : List ℕ) → AtomForms spells plain i xs text → AtomForms spells kept i xs text
-  atoms_plain_kept s i [] text h = h
-  atoms_plain_kept s i (a ∷ xs) text h = followed_map _ _ _ _ text (atom_plain_kept s i a) (atoms_plain_kept s (i + 1) xs) h
-
-  -- a canonical text keeps every rule
-  pub plain_kept : ((s : S) (text : List ℕ) → spells plain s text → spells kept s text) → (m : Meaning S) (text : List ℕ) → Spells word spells plain m text → Spells word spells kept m text
-  plain_kept s m text h =
-      followed_map _ _ _ _ text (λ t e. e)
-      (λ t. followed_map _ _ _ _ t (atoms_plain_kept s 0 m.atoms)
-      (λ u. followed_map _ _ _ _ u (rules_plain_kept (length m.atoms) 0 m.rules) (λ v e. e))) h

@@ -9,10 +9,9 @@ use Rattle.std.specs.Str.Parse.{AllDigits}
 use Rattle.stamps.specs.declared.tick.Tick.{Tick}
 use Rattle.stamps.specs.declared.then.Then.{Then}
 use Rattle.text.specs.Spelt.{up_to, space, opening, shutting, item, list_text, tick_text, pair_text}
-use Rattle.grammar.specs.Pieces.{Care, kept, plain, Kept, Numeral, Spaced, Listed}
+use Rattle.grammar.specs.Pieces.{kept, plain, Numeral, Spaced, Listed, largest}
 use Rattle.grammar.specs.Stamps.{TickSpelt, PairSpelt}
 use Rattle.grammar.proofs.Following.{followed_by, followed_unique}
-use Rattle.grammar.proofs.Keeping.{kept_fact, kept_both}
 
 no_leading_zero : (n : ℕ) → n < 2 ^ 64 → get_or (decimal n) 0 0 ≡ 48 → length (decimal n) ≡ 1
 no_leading_zero n h e =
@@ -21,7 +20,7 @@ no_leading_zero n h e =
       | inr some ↦ absurd (omega (arith, first_decimal n (omega arith) h))
     ]
 
-pub numeral_canonical : (limit n : ℕ) → n ≤ limit → limit ≤ 4294967295 → Numeral plain limit n (decimal n)
+pub numeral_canonical : (limit n : ℕ) → n ≤ limit → limit ≤ largest → Numeral plain limit n (decimal n)
 numeral_canonical limit n h l =
     let reads = decimal_is_IsNumeral n (omega arith) in
     record {
@@ -86,7 +85,7 @@ items_text (x ∷ xs) =
 pub list_text_lem : (xs : List ℕ) → list_text xs ≡ opening ++ (spaced_text xs ++ shutting)
 list_text_lem xs = ap (λ t. opening ++ (t ++ shutting)) (items_text xs)
 
-spaced_canonical : (limit : ℕ) (xs : List ℕ) → limit ≤ 4294967295 → AllByRecursion (λ n. n ≤ limit) xs → Spaced plain limit xs (spaced_text xs)
+spaced_canonical : (limit : ℕ) (xs : List ℕ) → limit ≤ largest → AllByRecursion (λ n. n ≤ limit) xs → Spaced plain limit xs (spaced_text xs)
 spaced_canonical limit [] l h = refl
 spaced_canonical limit (x ∷ []) l h = subst (Numeral plain limit x) (sym (append-nil (decimal x))) (numeral_canonical limit x h.0 l)
 spaced_canonical limit (x ∷ y ∷ xs) l h =
@@ -100,7 +99,7 @@ spaced_unique limit (x ∷ y ∷ xs) text h =
     followed_unique (decimal x) (space ++ spaced_text (y ∷ xs)) text (numeral_unique limit x)
     (λ t. followed_unique space (spaced_text (y ∷ xs)) t (λ s e. e) (λ s. spaced_unique limit (y ∷ xs) s)) h
 
-pub list_canonical : (limit : ℕ) (xs : List ℕ) → limit ≤ 4294967295 → AllByRecursion (λ n. n ≤ limit) xs → Listed plain limit xs (list_text xs)
+pub list_canonical : (limit : ℕ) (xs : List ℕ) → limit ≤ largest → AllByRecursion (λ n. n ≤ limit) xs → Listed plain limit xs (list_text xs)
 list_canonical limit xs l h =
     subst (Listed plain limit xs) (sym (list_text_lem xs))
     (followed_by opening (spaced_text xs ++ shutting) refl (followed_by (spaced_text xs) shutting (spaced_canonical limit xs l h) refl))
@@ -110,24 +109,14 @@ list_unique limit xs text h =
     followed_unique opening (spaced_text xs ++ shutting) text (λ t e. e) (λ t. followed_unique (spaced_text xs) shutting t (spaced_unique limit xs) (λ s e. e)) h
     ∙ sym (list_text_lem xs)
 
-spaced_within : (c : Care) (limit : ℕ) (xs text : List ℕ) → Spaced c limit xs text → Kept c (AllByRecursion (λ n. n ≤ limit) xs)
-spaced_within c limit [] text h = kept_fact (Unit {0}) c tt
-spaced_within c limit (x ∷ []) text h = kept_both (x ≤ limit) (Unit {0}) c h.within (kept_fact (Unit {0}) c tt)
-spaced_within c limit (x ∷ y ∷ xs) text h =
-    kept_both (x ≤ limit) (AllByRecursion (λ n. n ≤ limit) (y ∷ xs)) c h.first.within (spaced_within c limit (y ∷ xs) h.second.back h.second.second)
-
--- the numbers of a list are within its limit
-pub list_within : (c : Care) (limit : ℕ) (xs text : List ℕ) → Listed c limit xs text → Kept c (AllByRecursion (λ n. n ≤ limit) xs)
-list_within c limit xs text h = spaced_within c limit xs h.second.front h.second.first
-
-pub tick_canonical : (t : Tick) → t.0 ≤ 4294967295 → TickSpelt plain t (tick_text t)
-tick_canonical t h = numeral_canonical 4294967295 t.0 h (omega arith)
+pub tick_canonical : (t : Tick) → t.0 ≤ largest → TickSpelt plain t (tick_text t)
+tick_canonical t h = numeral_canonical largest t.0 h (omega arith)
 
 pub tick_unique : (t : Tick) (text : List ℕ) → TickSpelt plain t text → text ≡ tick_text t
-tick_unique t text h = numeral_unique 4294967295 t.0 text h
+tick_unique t text h = numeral_unique largest t.0 text h
 
 -- a tick that is read fits
-pub tick_fits : (t : Tick) (text : List ℕ) → TickSpelt kept t text → t.0 ≤ 4294967295
+pub tick_fits : (t : Tick) (text : List ℕ) → TickSpelt kept t text → t.0 ≤ largest
 tick_fits t text h = h.within
 
 module _ (p : Then Tick Tick) where
@@ -140,7 +129,7 @@ module _ (p : Then Tick Tick) where
   pair_text_lem : pair_text p ≡ opening ++ inner
   pair_text_lem = simp append_assoc
 
-  pub pair_canonical : p.first.0 ≤ 4294967295 → p.second.0 ≤ 4294967295 → PairSpelt plain p (pair_text p)
+  pub pair_canonical : p.first.0 ≤ largest → p.second.0 ≤ largest → PairSpelt plain p (pair_text p)
   pair_canonical a b =
       subst (PairSpelt plain p) (sym pair_text_lem)
       (followed_by opening inner refl
@@ -157,5 +146,5 @@ module _ (p : Then Tick Tick) where
       ∙ sym pair_text_lem
 
   -- the ticks of a pair that is read fit
-  pub pair_fits : (text : List ℕ) → PairSpelt kept p text → (p.first.0 ≤ 4294967295) × (p.second.0 ≤ 4294967295)
+  pub pair_fits : (text : List ℕ) → PairSpelt kept p text → (p.first.0 ≤ largest) × (p.second.0 ≤ largest)
   pair_fits text h = (h.second.first.within, h.second.second.second.first.within)

@@ -4,7 +4,7 @@ use Rattle.std.specs.List.{slice_get}
 use Rattle.books.specs.declared.fault.Fault.{Fault}
 use Rattle.text.specs.Words.{is_byte}
 use Rattle.grammar.specs.Pieces.{Care, shape, kept, plain, Kept}
-use Rattle.grammar.proofs.Agreement.{AtByte, Same, Shared, Seen, Reads, Agrees}
+use Rattle.grammar.specs.Agreement.{AtByte, Same, Shared, Seen, Reads, Agrees}
 use Rattle.grammar.proofs.Agreeing.{at_byte_map, at_byte_both, not_at_byte, Reaches, seen_reaches, same_below, agrees_if, agrees_same, agrees_as}
 use Rattle.grammar.proofs.Keeping.{kept_map}
 use Rattle.grammar.proofs.Places.{slice_get_front}

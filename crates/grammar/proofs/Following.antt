@@ -8,6 +8,10 @@ use Rattle.grammar.specs.Pieces.{Exactly, Followed}
 pub followed_by : {A B : List ℕ → Type 0} (front back : List ℕ) → A front → B back → Followed A B (front ++ back)
 followed_by front back a b = record { front = front; back = back; whole = refl; first = a; second = b }
 
+-- the first piece as it was, and another piece in the place of the second
+pub onto : {A B C : List ℕ → Type 0} {text : List ℕ} (f : Followed A B text) → C f.back → Followed A C text
+onto f second = record { front = f.front; back = f.back; whole = f.whole; first = f.first; second = second }
+
 -- where each of two pieces has one text, so have they together
 pub followed_unique : {A B : List ℕ → Type 0} (front back text : List ℕ) → ((t : List ℕ) → A t → t ≡ front) → ((t : List ℕ) → B t → t ≡ back) → Followed A B text → text ≡ front ++ back
 followed_unique front back text a b h =

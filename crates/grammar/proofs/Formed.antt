@@ -13,15 +13,15 @@ use Rattle.text.specs.Rules.{head_at, body_at, rule_at}
 use Rattle.text.specs.Spelt.{space}
 use Rattle.text.specs.Words.{pass_word, is_byte}
 use Rattle.text.specs.declared.site.Site.{Site}
-use Rattle.grammar.specs.Pieces.{Care, Kept, Exactly, Followed, Numeral}
+use Rattle.grammar.specs.Pieces.{Care, Kept, Exactly, Followed, Numeral, largest}
 use Rattle.grammar.specs.Grammar.{Numbered, Declared, Body}
-use Rattle.grammar.proofs.Agreement.{Agrees}
+use Rattle.grammar.specs.Agreement.{Agrees, NoDigit}
 use Rattle.grammar.proofs.Agreeing.{Any, Via, agrees_same, agrees_as, agrees_then, agrees_done, agrees_if, byte_then, word_then}
 use Rattle.grammar.proofs.Bodies.{body_agrees}
 use Rattle.grammar.proofs.Choosing.{agrees_choice, agrees_unless}
-use Rattle.grammar.proofs.Following.{ended, unended, first_of}
+use Rattle.grammar.proofs.Following.{ended, unended, first_of, onto}
 use Rattle.grammar.proofs.Keeping.{kept_map}
-use Rattle.grammar.proofs.Numbers.{number_agrees, NoDigit}
+use Rattle.grammar.proofs.Numbers.{number_agrees}
 
 abbrev Known : Site → ℕ → Care → ℕ → List ℕ → Type 0
 Known site v c n piece = Kept c (leb site.atoms v ≡ false) × ((n ≡ v) × (piece ≡ []))
@@ -30,19 +30,19 @@ Known site v c n piece = Kept c (leb site.atoms v ≡ false) × ((n ≡ v) × (p
 pub head_agrees : (site : Site) → Agrees (λ text at. head_at text site at) (λ c n text. Declared c site.atoms n text) NoDigit
 head_agrees site =
     agrees_as _ _ _ NoDigit to from
-    (agrees_then (λ text at. number_at text at 4294967295) (λ at v text m. cond (leb site.atoms v) (Err (Reading (AtomMissing site.rule 0))) (Ok (v, m)))
-    (λ c v piece. Numeral c 4294967295 v piece) (Known site) NoDigit NoDigit (number_agrees 4294967295)
+    (agrees_then (λ text at. number_at text at largest) (λ at v text m. cond (leb site.atoms v) (Err (Reading (AtomMissing site.rule 0))) (Ok (v, m)))
+    (λ c v piece. Numeral c largest v piece) (Known site) NoDigit NoDigit (number_agrees largest)
     (λ at v. agrees_unless (Reading (AtomMissing site.rule 0)) tt (λ text m. Ok (v, m)) (λ c n piece. (n ≡ v) × (piece ≡ [])) NoDigit (agrees_done v NoDigit) (leb site.atoms v))
     (λ c v n piece rest h s. subst (λ p. NoDigit (p ++ rest)) (sym h.1.1) s))
   where
-    to : (c : Care) (n : ℕ) (text : List ℕ) → Via (λ c v piece. Numeral c 4294967295 v piece) (Known site) c n text → Declared c site.atoms n text
+    to : (c : Care) (n : ℕ) (text : List ℕ) → Via (λ c v piece. Numeral c largest v piece) (Known site) c n text → Declared c site.atoms n text
     to c n text v =
         let f = v.parts in
         let whole : text ≡ f.front = f.whole ∙ ap (λ t. f.front ++ t) f.second.1.1 ∙ append-nil f.front in
         subst (λ k. Declared c site.atoms k text) (sym f.second.1.0)
-        (record { spelt = subst (λ t. Numeral c 4294967295 v.value t) (sym whole) f.first; declared = kept_map c (leb-false site.atoms v.value) f.second.0 })
+        (record { spelt = subst (λ t. Numeral c largest v.value t) (sym whole) f.first; declared = kept_map c (leb-false site.atoms v.value) f.second.0 })
 
-    from : (c : Care) (n : ℕ) (text : List ℕ) → Declared c site.atoms n text → Via (λ c v piece. Numeral c 4294967295 v piece) (Known site) c n text
+    from : (c : Care) (n : ℕ) (text : List ℕ) → Declared c site.atoms n text → Via (λ c v piece. Numeral c largest v piece) (Known site) c n text
     from c n text d =
         record { value = n; parts = record { front = text; back = []; whole = sym (append-nil text); first = d.spelt; second = (kept_map c (lt-leb site.atoms n) d.declared, (refl, refl)) } }
 
@@ -52,7 +52,7 @@ module _ {Y : Type 0} (expected : ℕ) (K : List ℕ → ℕ → Result (Y × �
   Next v c y piece = Kept c (eqb v expected ≡ true) × G c y piece
 
   abbrev Spelt : Care → ℕ → List ℕ → Type 0
-  Spelt c v piece = Numeral c 4294967295 v piece
+  Spelt c v piece = Numeral c largest v piece
 
   next_to : (c : Care) (y : Y) (text : List ℕ) → Via Spelt Next c y text → Followed (Numbered c expected) (G c y) text
   next_to c y text v =
@@ -73,9 +73,9 @@ module _ {Y : Type 0} (expected : ℕ) (K : List ℕ → ℕ → Result (Y × �
 
   pub numbered_then : Agrees (λ text at. and_then (next_number text expected at) (K text)) (λ c y. Followed (Numbered c expected) (G c y)) Stop
   numbered_then =
-      agrees_same _ _ _ Stop (λ text at. next_same text at (number_at text at 4294967295))
+      agrees_same _ _ _ Stop (λ text at. next_same text at (number_at text at largest))
       (agrees_as _ (Via Spelt Next) _ Stop next_to next_from
-      (agrees_then (λ text at. number_at text at 4294967295) (λ at v text m. cond (eqb v expected) (K text m) (Err (Reading (Number at)))) Spelt Next NoDigit Stop (number_agrees 4294967295)
+      (agrees_then (λ text at. number_at text at largest) (λ at v text m. cond (eqb v expected) (K text m) (Err (Reading (Number at)))) Spelt Next NoDigit Stop (number_agrees largest)
       (λ at v. agrees_if (Reading (Number at)) tt K G Stop a (eqb v expected))
       (λ c v y piece rest h s. starts c y piece rest h.1)))
 
@@ -142,11 +142,11 @@ module _ (site : Site) where
       let k = p.parts.second in
       let n = k.second in
       let body = ended (Bodied c n.value) (r ≡ made h.value p.value n.value) k.back n.parts in
-      let six : Followed (Exactly space) (Bodied c n.value) p.parts.back = record { front = k.front; back = k.back; whole = k.whole; first = k.first; second = body } in
-      let five : Followed (Bodied c p.value) (Followed (Exactly space) (Bodied c n.value)) g.back = record { front = p.parts.front; back = p.parts.back; whole = p.parts.whole; first = p.parts.first; second = six } in
-      let four : Followed (Exactly space) (Followed (Bodied c p.value) (Followed (Exactly space) (Bodied c n.value))) h.parts.back = record { front = g.front; back = g.back; whole = g.whole; first = g.first; second = five } in
+      let six : Followed (Exactly space) (Bodied c n.value) p.parts.back = onto k body in
+      let five : Followed (Bodied c p.value) (Followed (Exactly space) (Bodied c n.value)) g.back = onto p.parts six in
+      let four : Followed (Exactly space) (Followed (Bodied c p.value) (Followed (Exactly space) (Bodied c n.value))) h.parts.back = onto g five in
       subst (λ x. Parts c site.atoms x text) (sym n.parts.second.0)
-      (record { front = f.front; back = f.back; whole = f.whole; first = f.first; second = record { front = h.parts.front; back = h.parts.back; whole = h.parts.whole; first = h.parts.first; second = four } })
+      (onto f (onto h.parts four))
 
   parts_from : (c : Care) (r : Rule) (text : List ℕ) → Parts c site.atoms r text → Followed (Exactly space) (Via Headed Positives c r) text
   parts_from c r text f =
@@ -155,9 +155,9 @@ module _ (site : Site) where
       let p = k.second in
       let j = p.second in
       let negatives : Via Bodied (Last r.head r.positives) c r j.back = record { value = r.negatives; parts = unended (Bodied c r.negatives) (r ≡ r) j.back refl j.second } in
-      let positives : Via Bodied (Negatives r.head) c r k.back = record { value = r.positives; parts = record { front = p.front; back = p.back; whole = p.whole; first = p.first; second = record { front = j.front; back = j.back; whole = j.whole; first = j.first; second = negatives } } } in
-      let head : Via Headed Positives c r f.back = record { value = r.head; parts = record { front = g.front; back = g.back; whole = g.whole; first = g.first; second = record { front = k.front; back = k.back; whole = k.whole; first = k.first; second = positives } } } in
-      record { front = f.front; back = f.back; whole = f.whole; first = f.first; second = head }
+      let positives : Via Bodied (Negatives r.head) c r k.back = record { value = r.positives; parts = onto p (onto j negatives) } in
+      let head : Via Headed Positives c r f.back = record { value = r.head; parts = onto g (onto k positives) } in
+      onto f head
 
   pub rule_agrees : Agrees (λ text at. rule_at text site at) (λ c r text. Parts c site.atoms r text) Any
   unfolding rule_at

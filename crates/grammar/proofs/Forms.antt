@@ -14,14 +14,13 @@ use Rattle.text.specs.Words.{pass_word}
 use Rattle.text.specs.declared.counts.Counts.{Counts}
 use Rattle.grammar.specs.Pieces.{Care, Kept, Exactly, Followed}
 use Rattle.grammar.specs.Grammar.{Numbered}
-use Rattle.grammar.proofs.Agreement.{Agrees}
+use Rattle.grammar.specs.Agreement.{Agrees, NoDigit}
 use Rattle.grammar.proofs.Agreeing.{Any, Via, agrees_as, agrees_then, agrees_done, byte_then, word_then}
 use Rattle.grammar.proofs.Choosing.{agrees_unless}
 use Rattle.grammar.proofs.Dispatch.{end_word, rule_rest, void_rest, end_rest, atom_rest}
-use Rattle.grammar.proofs.Following.{ended, unended, word_to, word_from, first_of, ungroup}
+use Rattle.grammar.proofs.Following.{ended, unended, word_to, word_from, first_of, ungroup, onto}
 use Rattle.grammar.proofs.Formed.{Parts, kind_agrees, numbered_then, rule_agrees}
 use Rattle.grammar.proofs.Keeping.{kept_map}
-use Rattle.grammar.proofs.Numbers.{NoDigit}
 
 -- where a piece begins with a byte that is no digit
 pub starts : (b : ℕ) (word : List ℕ) (A : List ℕ → Type 0) (piece rest : List ℕ) → digit_of (Some b) ≡ None → Followed (Exactly (b ∷ word)) A piece → NoDigit (piece ++ rest)
@@ -49,12 +48,12 @@ module _ (S : Type 0) (room : Counts) (atoms rules : ℕ) where
   rule_to c y text (k, f) =
       let v = f.second in
       let g = v.parts in
-      (v.value, g.second.second.0, kept_map c (leb-false room.rules rules) k, record { front = f.front; back = f.back; whole = f.whole; first = f.first; second = record { front = g.front; back = g.back; whole = g.whole; first = g.first; second = ended (Exactly closing) (y ≡ rule_line (Some v.value)) g.back g.second } })
+      (v.value, g.second.second.0, kept_map c (leb-false room.rules rules) k, onto f (onto g (ended (Exactly closing) (y ≡ rule_line (Some v.value)) g.back g.second)))
 
   rule_from : (c : Care) (y : Line S) (text : List ℕ) → RuleRest c y text → Kept c (leb room.rules rules ≡ false) × Followed (Numbered c rules) (RuleSaid c y) text
   rule_from c y text (r, e, k, f) =
       let g = f.second in
-      (kept_map c (lt-leb room.rules rules) k, record { front = f.front; back = f.back; whole = f.whole; first = f.first; second = record { value = r; parts = record { front = g.front; back = g.back; whole = g.whole; first = g.first; second = unended (Exactly closing) (y ≡ rule_line (Some r)) g.back e g.second } } })
+      (kept_map c (lt-leb room.rules rules) k, onto f (record { value = r; parts = onto g (unended (Exactly closing) (y ≡ rule_line (Some r)) g.back e g.second) }))
 
   said_stops : (c : Care) (y : Line S) (piece rest : List ℕ) → RuleSaid c y piece → NoDigit (piece ++ rest)
   said_stops c y piece rest v = ap digit_of (first_of _ _ _ piece rest (ungroup _ _ _ piece v.parts))
@@ -74,11 +73,11 @@ module _ (S : Type 0) (room : Counts) (atoms rules : ℕ) where
 
   void_to : (c : Care) (y : Line S) (text : List ℕ) → Kept c (leb room.rules rules ≡ false) × Followed (Numbered c rules) (Closed (rule_line None) c y) text → VoidRest c y text
   void_to c y text (k, f) =
-      (f.second.second.0, kept_map c (leb-false room.rules rules) k, record { front = f.front; back = f.back; whole = f.whole; first = f.first; second = ended (Exactly closing) (y ≡ rule_line None) f.back f.second })
+      (f.second.second.0, kept_map c (leb-false room.rules rules) k, onto f (ended (Exactly closing) (y ≡ rule_line None) f.back f.second))
 
   void_from : (c : Care) (y : Line S) (text : List ℕ) → VoidRest c y text → Kept c (leb room.rules rules ≡ false) × Followed (Numbered c rules) (Closed (rule_line None) c y) text
   void_from c y text (e, k, f) =
-      (kept_map c (lt-leb room.rules rules) k, record { front = f.front; back = f.back; whole = f.whole; first = f.first; second = unended (Exactly closing) (y ≡ rule_line None) f.back e f.second })
+      (kept_map c (lt-leb room.rules rules) k, onto f (unended (Exactly closing) (y ≡ rule_line None) f.back e f.second))
 
   pub void_rest_agrees : (at : ℕ) → Agrees (void_rest S room atoms rules at) VoidRest Any
   void_rest_agrees at =
@@ -146,19 +145,19 @@ module _ (S : Type 0) (room : Counts) (atoms rules : ℕ) where
         let w = v.parts.second in
         let h = w.parts in
         let a : Atom S = record { stamp = w.value; reading = v.value } in
-        let stamp : Followed (spells c w.value) (Exactly closing) v.parts.back = record { front = h.front; back = h.back; whole = h.whole; first = h.first; second = ended (Exactly closing) (y ≡ atom_line a) h.back h.second } in
-        let kind : Followed (Exactly (cond v.value in_word out_word)) (Followed (spells c w.value) (Exactly closing)) g.back = record { front = v.parts.front; back = v.parts.back; whole = v.parts.whole; first = v.parts.first; second = stamp } in
-        let spaced = kind_to (Followed (spells c w.value) (Exactly closing)) v.value f.back (record { front = g.front; back = g.back; whole = g.whole; first = g.first; second = kind }) in
-        (a, h.second.second.0, kept_map c (leb-false room.atoms atoms) k, record { front = f.front; back = f.back; whole = f.whole; first = f.first; second = spaced })
+        let stamp : Followed (spells c w.value) (Exactly closing) v.parts.back = onto h (ended (Exactly closing) (y ≡ atom_line a) h.back h.second) in
+        let kind : Followed (Exactly (cond v.value in_word out_word)) (Followed (spells c w.value) (Exactly closing)) g.back = onto v.parts stamp in
+        let spaced = kind_to (Followed (spells c w.value) (Exactly closing)) v.value f.back (onto g kind) in
+        (a, h.second.second.0, kept_map c (leb-false room.atoms atoms) k, onto f spaced)
 
     atom_from : (c : Care) (y : Line S) (text : List ℕ) → AtomRest c y text → Kept c (leb room.atoms atoms ≡ false) × Followed (Numbered c atoms) (AtomSaid c y) text
     atom_from c y text (a, e, k, f) =
         let g = kind_from (Followed (spells c a.stamp) (Exactly closing)) a.reading f.back f.second in
         let h = g.second in
         let i = h.second in
-        let stamp : Stamped a.reading c y h.back = record { value = a.stamp; parts = record { front = i.front; back = i.back; whole = i.whole; first = i.first; second = unended (Exactly closing) (y ≡ atom_line a) i.back e i.second } } in
-        let kind : Via Kinded Stamped c y g.back = record { value = a.reading; parts = record { front = h.front; back = h.back; whole = h.whole; first = h.first; second = stamp } } in
-        (kept_map c (lt-leb room.atoms atoms) k, record { front = f.front; back = f.back; whole = f.whole; first = f.first; second = record { front = g.front; back = g.back; whole = g.whole; first = g.first; second = kind } })
+        let stamp : Stamped a.reading c y h.back = record { value = a.stamp; parts = onto i (unended (Exactly closing) (y ≡ atom_line a) i.back e i.second) } in
+        let kind : Via Kinded Stamped c y g.back = record { value = a.reading; parts = onto h stamp } in
+        (kept_map c (lt-leb room.atoms atoms) k, onto f (onto g kind))
 
     pub atom_rest_agrees : (at : ℕ) → Agrees (atom_rest S room atoms rules stamp_at at) AtomRest Any
     atom_rest_agrees at =

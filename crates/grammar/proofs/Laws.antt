@@ -10,29 +10,22 @@ use Rattle.text.specs.declared.counts.Counts.{Counts}
 use Rattle.text.specs.declared.reader.Stage.{Stage}
 use Rattle.writing.specs.Replies.{checked_text, canonical_at}
 use Rattle.writing.specs.Writes.{book_gap, write_answer}
-use Rattle.grammar.proofs.Agreement.{Agrees}
+use Rattle.grammar.specs.Agreement.{Agrees, NoDigit}
 use Rattle.grammar.specs.Notations.{Notation, ticks, routes, pairs}
-use Rattle.grammar.specs.Pieces.{kept, plain}
+use Rattle.grammar.specs.Pieces.{kept}
 use Rattle.grammar.specs.Theorems.{read_as, written_of, ReadingIsTheGrammar, WrittenIsReadBack, AcceptedComesBack, CanonicalIsUnchanged, DegreesNest, AnswerIsItsOwn, RefusedAtTheFirstByte}
 use Rattle.grammar.proofs.Agreeing.{Any, agrees_before}
 use Rattle.grammar.proofs.Aisled.{route_agrees}
-use Rattle.grammar.proofs.Books.{book_canonical, book_unique, spelt_held, spelt_gapless, plain_kept, tick_plain_kept, pair_plain_kept, route_plain_kept}
+use Rattle.grammar.proofs.Books.{book_canonical, book_unique, spelt_held, spelt_gapless}
 use Rattle.grammar.proofs.Canonical.{tick_canonical, tick_unique, tick_fits, pair_canonical, pair_unique, pair_fits}
 use Rattle.grammar.proofs.Lines.{FormAt}
-use Rattle.grammar.proofs.Numbers.{NoDigit}
 use Rattle.grammar.proofs.Rests.{Going}
 use Rattle.grammar.proofs.Routes.{route_canonical, route_unique, route_fits}
 use Rattle.grammar.proofs.Staged.{forms_agree}
 use Rattle.grammar.proofs.Stamped.{tick_agrees, pair_agrees}
-use Rattle.grammar.proofs.Whole.{book_seen, book_reads, book_viable, book_none, book_shaped}
-
--- what a kind of stamp keeps
-pub record Lawful {S : Type 0} (n : Notation S) : Type 0 where
-  agrees : Agrees n.stamp_at n.spells NoDigit
-  canonical : (s : S) → n.Fits s → n.spells plain s (n.spelt s)
-  unique : (s : S) (text : List ℕ) → n.spells plain s text → text ≡ n.spelt s
-  held : (s : S) (text : List ℕ) → n.spells kept s text → n.Fits s
-  plainly : (s : S) (text : List ℕ) → n.spells plain s text → n.spells kept s text
+use Rattle.grammar.proofs.Whole.{book_seen, book_reads, book_viable, book_none}
+use Rattle.grammar.proofs.Keeping.{plain_to_kept, to_shape, tick_eased, pair_eased, route_eased, book_eased}
+use Rattle.grammar.specs.Lawful.{Lawful}
 
 pub lawful_ticks : Lawful ticks
 lawful_ticks =
@@ -41,7 +34,7 @@ lawful_ticks =
       canonical = λ t h. tick_canonical t (omega (arith, h));
       unique = tick_unique;
       held = λ t text h. omega (arith, tick_fits t text h);
-      plainly = tick_plain_kept;
+      plainly = tick_eased plain_to_kept;
     }
 
 pub lawful_pairs : Lawful pairs
@@ -51,7 +44,7 @@ lawful_pairs =
       canonical = λ p h. pair_canonical p (omega (arith, h.0)) (omega (arith, h.1));
       unique = pair_unique;
       held = λ p text h. let f = pair_fits p text h in (omega (arith, f.0), omega (arith, f.1));
-      plainly = pair_plain_kept;
+      plainly = pair_eased plain_to_kept;
     }
 
 pub lawful_routes : Lawful routes
@@ -61,7 +54,7 @@ lawful_routes =
       canonical = route_canonical;
       unique = route_unique;
       held = route_fits;
-      plainly = route_plain_kept;
+      plainly = route_eased plain_to_kept;
     }
 
 module _ {S : Type 0} (n : Notation S) (l : Lawful n) where
@@ -80,7 +73,7 @@ module _ {S : Type 0} (n : Notation S) (l : Lawful n) where
   pub written_is_read_back_lem : WrittenIsReadBack n
   written_is_read_back_lem atoms rules m gapless held takes =
       let spelt = book_canonical n.word n.spells n.spelt n.Fits l.canonical m gapless held in
-      (reading_is_the_grammar_lem (written_of n m) atoms rules m).reads (plain_kept n.word n.spells n.spelt n.Fits l.plainly m (written_of n m) spelt) takes
+      (reading_is_the_grammar_lem (written_of n m) atoms rules m).reads (book_eased plain_to_kept n.word n.spells l.plainly m (written_of n m) spelt) takes
 
   pub accepted_comes_back_lem : AcceptedComesBack n
   accepted_comes_back_lem text atoms rules m e =
@@ -99,19 +92,16 @@ module _ {S : Type 0} (n : Notation S) (l : Lawful n) where
   pub canonical_is_unchanged_lem : CanonicalIsUnchanged n
   canonical_is_unchanged_lem text m h =
       record {
-        read = λ atoms rules takes. (reading_is_the_grammar_lem text atoms rules m).reads (plain_kept n.word n.spells n.spelt n.Fits l.plainly m text h) takes;
+        read = λ atoms rules takes. (reading_is_the_grammar_lem text atoms rules m).reads (book_eased plain_to_kept n.word n.spells l.plainly m text h) takes;
         written = sym (book_unique n.word n.spells n.spelt n.Fits l.unique m text h);
       }
 
   pub degrees_nest : DegreesNest n
   degrees_nest m text =
       record {
-        plainly = plain_kept n.word n.spells n.spelt n.Fits l.plainly m text;
-        shapely = book_shaped n.stamp_at n.word n.spells (room_for m) (forms (room_for m)) text m (omega arith) (omega arith);
+        plainly = book_eased plain_to_kept n.word n.spells l.plainly m text;
+        shapely = book_eased (to_shape kept) n.word n.spells (λ s t. l.agrees.shaped kept s t) m text;
       }
-    where
-      room_for : Meaning S → Counts
-      room_for m = record { atoms = length m.atoms; rules = length m.rules }
 
   -- where a book is checked and written, its text is what is answered
   written_answer : (m : Meaning S) (checked : Result (Unit {0}) Fault) (written : Result ℕ Fault) (answer : List ℕ) → and_then checked (λ _. and_then written (λ _. Ok (written_of n m))) ≡ Ok answer → answer ≡ written_of n m

@@ -1,4 +1,3 @@
-pub mod Agreement
 pub mod Places
 pub mod Keeping
 pub mod Following

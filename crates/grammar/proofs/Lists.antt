@@ -9,18 +9,12 @@ use Rattle.text.specs.Bytes.{and_then, pass_at}
 use Rattle.text.specs.Numbers.{digit_of, number_at}
 use Rattle.text.specs.Words.{is_byte}
 use Rattle.grammar.specs.Pieces.{Care, shape, Kept, Exactly, Followed, Numeral, Spaced, Listed}
-use Rattle.grammar.proofs.Agreement.{AtByte, Agrees}
+use Rattle.grammar.specs.Agreement.{AtByte, Agrees, NoDigit}
 use Rattle.grammar.proofs.Agreeing.{Any, Via, agrees_same, agrees_as, agrees_then, agrees_done, byte_then}
 use Rattle.grammar.proofs.Choosing.{agrees_choice, agrees_unless, agrees_never}
-use Rattle.grammar.proofs.Following.{followed_map, regroup, ungroup, ended, unended, first_of}
-use Rattle.grammar.proofs.Keeping.{kept_map, kept_fact, kept_three}
-use Rattle.grammar.proofs.Numbers.{number_agrees, NoDigit, numeral_shaped}
-
-pub spaced_shaped : (c : Care) (limit : ℕ) (ns text : List ℕ) → Spaced c limit ns text → Spaced shape limit ns text
-spaced_shaped c limit [] text h = h
-spaced_shaped c limit (n ∷ []) text h = numeral_shaped c limit n text h
-spaced_shaped c limit (n ∷ m ∷ ns) text h =
-    followed_map _ _ _ _ text (numeral_shaped c limit n) (λ t. followed_map _ _ _ _ t (λ u e. e) (spaced_shaped c limit (m ∷ ns))) h
+use Rattle.grammar.proofs.Following.{followed_map, regroup, ungroup, ended, unended, first_of, onto}
+use Rattle.grammar.proofs.Keeping.{kept_map, kept_fact, kept_three, spaced_eased, to_shape}
+use Rattle.grammar.proofs.Numbers.{number_agrees}
 
 -- a number begins with a digit, which is no bracket
 pub starts_digit : (c : Care) (limit n : ℕ) (text rest : List ℕ) → Numeral c limit n text → is_byte 41 (slice_get (text ++ rest) 0) ≡ false
@@ -80,8 +74,8 @@ module _ {A : Type 0} (limit : ℕ) (add : A → ℕ → A) (first second : A �
   tail_on c s t text v f (inl on) =
       let tail = on.second in
       let spaced = Spaced c limit (tail.head ∷ tail.rest) in
-      let inner : Followed (Exactly (32 ∷ [])) (Followed spaced (Exactly (41 ∷ []))) f.back = record { front = on.front; back = on.back; whole = on.whole; first = on.first; second = tail.parts } in
-      let outer : Followed (Numbers c v) (Followed (Followed (Exactly (32 ∷ [])) spaced) (Exactly (41 ∷ []))) text = record { front = f.front; back = f.back; whole = f.whole; first = f.first; second = regroup (Exactly (32 ∷ [])) spaced (Exactly (41 ∷ [])) f.back inner } in
+      let inner : Followed (Exactly (32 ∷ [])) (Followed spaced (Exactly (41 ∷ []))) f.back = onto on tail.parts in
+      let outer : Followed (Numbers c v) (Followed (Followed (Exactly (32 ∷ [])) spaced) (Exactly (41 ∷ []))) text = onto f (regroup (Exactly (32 ∷ [])) spaced (Exactly (41 ∷ [])) f.back inner) in
       record {
         head = v;
         rest = tail.head ∷ tail.rest;
@@ -93,7 +87,7 @@ module _ {A : Type 0} (limit : ℕ) (add : A → ℕ → A) (first second : A �
       record {
         head = v;
         rest = [];
-        parts = record { front = f.front; back = f.back; whole = f.whole; first = f.first; second = ended (Exactly (41 ∷ [])) (t ≡ add s v) f.back on };
+        parts = onto f (ended (Exactly (41 ∷ [])) (t ≡ add s v) f.back on);
         passes = kept_three (first s v ≡ false) (second s v ≡ false) (Unit {0}) c f.second.0 f.second.1.0 (kept_fact (Unit {0}) c tt);
         means = on.second.0;
       }
@@ -106,19 +100,19 @@ module _ {A : Type 0} (limit : ℕ) (add : A → ℕ → A) (first second : A �
     where
       from_tail : (c : Care) (s t : A) (text : List ℕ) (v : ℕ) (vs : List ℕ) → Followed (Spaced c limit (v ∷ vs)) (Exactly (41 ∷ [])) text → Kept c (Passes s (v ∷ vs)) → t ≡ adds s (v ∷ vs) → Via Numbers (Tested s) c t text
       from_tail c s t text v [] f k e =
-          record { value = v; parts = record { front = f.front; back = f.back; whole = f.whole; first = f.first; second = (kept_map c (λ p. p.0) k, (kept_map c (λ p. p.1) k, inr (unended (Exactly (41 ∷ [])) (t ≡ add s v) f.back e f.second))) } }
+          record { value = v; parts = onto f (kept_map c (λ p. p.0) k, (kept_map c (λ p. p.1) k, inr (unended (Exactly (41 ∷ [])) (t ≡ add s v) f.back e f.second))) }
       from_tail c s t text v (w ∷ ws) f k e =
           let g = ungroup (Numbers c v) (Followed (Exactly (32 ∷ [])) (Spaced c limit (w ∷ ws))) (Exactly (41 ∷ [])) text f in
           let h = ungroup (Exactly (32 ∷ [])) (Spaced c limit (w ∷ ws)) (Exactly (41 ∷ [])) g.back g.second in
           let tail : Tail c (add s v) t h.back = record { head = w; rest = ws; parts = h.second; passes = kept_map c (λ p. p.2) k; means = e } in
-          record { value = v; parts = record { front = g.front; back = g.back; whole = g.whole; first = g.first; second = (kept_map c (λ p. p.0) k, (kept_map c (λ p. p.1) k, inl (record { front = h.front; back = h.back; whole = h.whole; first = h.first; second = tail }))) } }
+          record { value = v; parts = onto g (kept_map c (λ p. p.0) k, (kept_map c (λ p. p.1) k, inl (onto h tail))) }
 
   tail_shaped : (c : Care) (s t : A) (text : List ℕ) → Tail c s t text → Tail shape s t text
   tail_shaped c s t text tail =
       record {
         head = tail.head;
         rest = tail.rest;
-        parts = followed_map _ _ _ _ text (spaced_shaped c limit (tail.head ∷ tail.rest)) (λ p e. e) tail.parts;
+        parts = followed_map _ _ _ _ text (spaced_eased (to_shape c) limit (tail.head ∷ tail.rest)) (λ p e. e) tail.parts;
         passes = tt;
         means = tail.means;
       }
@@ -155,9 +149,9 @@ module _ {A : Type 0} (limit : ℕ) (add : A → ℕ → A) (first second : A �
       by_open : Open s c t f.back → Bracketed c s t text
       by_open (inl g) =
           let inner : Followed (Exactly []) (Exactly (41 ∷ [])) f.back = record { front = []; back = f.back; whole = refl; first = refl; second = ended (Exactly (41 ∷ [])) (t ≡ s) f.back g } in
-          record { numbers = []; spelt = record { front = f.front; back = f.back; whole = f.whole; first = f.first; second = inner }; passes = kept_fact (Unit {0}) c tt; means = g.second.0 }
+          record { numbers = []; spelt = onto f inner; passes = kept_fact (Unit {0}) c tt; means = g.second.0 }
       by_open (inr tail) =
-          record { numbers = tail.head ∷ tail.rest; spelt = record { front = f.front; back = f.back; whole = f.whole; first = f.first; second = tail.parts }; passes = tail.passes; means = tail.means }
+          record { numbers = tail.head ∷ tail.rest; spelt = onto f tail.parts; passes = tail.passes; means = tail.means }
 
   bracketed_from : (c : Care) (s t : A) (text : List ℕ) → Bracketed c s t text → Followed (Exactly (40 ∷ [])) (Open s c t) text
   bracketed_from c s t text b = by_numbers b.numbers b.spelt b.passes b.means
@@ -166,9 +160,9 @@ module _ {A : Type 0} (limit : ℕ) (add : A → ℕ → A) (first second : A �
       by_numbers [] f k e =
           let g = f.second in
           let close : f.back ≡ 41 ∷ [] = g.whole ∙ ap (λ p. p ++ g.back) g.first ∙ g.second in
-          record { front = f.front; back = f.back; whole = f.whole; first = f.first; second = inl (unended (Exactly (41 ∷ [])) (t ≡ s) f.back e close) }
+          onto f (inl (unended (Exactly (41 ∷ [])) (t ≡ s) f.back e close))
       by_numbers (n ∷ ns) f k e =
-          record { front = f.front; back = f.back; whole = f.whole; first = f.first; second = inr (record { head = n; rest = ns; parts = f.second; passes = k; means = e }) }
+          onto f (inr (record { head = n; rest = ns; parts = f.second; passes = k; means = e }))
 
   -- a list that has a number goes on with a digit
   tail_no_bracket : (c : Care) (s t : A) (piece rest : List ℕ) → Tail c s t piece → is_byte 41 (slice_get (piece ++ rest) 0) ≡ false

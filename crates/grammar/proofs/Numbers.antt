@@ -13,17 +13,10 @@ use Rattle.books.specs.declared.fault.Fault.TheVariants.{Reading}
 use Rattle.text.specs.Bytes.{and_then, wrong_at}
 use Rattle.text.specs.Numbers.{digit_of, digit_at, grown, one_more, digits_from, judged, number_at}
 use Rattle.text.specs.Turns.{turns}
-use Rattle.grammar.proofs.Agreement.{Same, Shared, Between, Seen, ShapeOnly, Reads, Agrees}
+use Rattle.grammar.specs.Agreement.{Same, Shared, Between, Seen, ShapeOnly, Reads, Agrees, NoDigit}
 use Rattle.grammar.specs.Pieces.{Care, shape, kept, plain, Kept, Numeral}
 use Rattle.grammar.proofs.Places.{slice_get_front, between_join, between_none, between_one, drop_past}
-
--- a text that does not begin with a digit
-abbrev pub NoDigit : List ℕ → Type 0
-NoDigit rest = digit_of (slice_get rest 0) ≡ None
-
--- whatever rules a number keeps, it has the shape of one
-pub numeral_shaped : (c : Care) (limit n : ℕ) (text : List ℕ) → Numeral c limit n text → Numeral shape limit n text
-numeral_shaped c limit n text h = record { digits = h.digits; some = h.some; few = h.few; means = h.means; within = tt; plainly = tt }
+use Rattle.grammar.proofs.Keeping.{to_shape, numeral_eased}
 
 digit_value_is : (b : ℕ) → 48 ≤ b → b ≤ 57 → digit_value b ≡ b - 48
 digit_value_is b lo hi = rw (le-ltb b 48 lo, lt-ltb b 58 (omega arith)) refl
@@ -226,27 +219,30 @@ module _ (text : List ℕ) (at limit : ℕ) (c : Care) (n : ℕ) (piece rest : L
 pub number_agrees : (limit : ℕ) → Agrees (λ text at. number_at text at limit) (λ c n piece. Numeral c limit n piece) NoDigit
 number_agrees limit =
     record {
-      shaped = λ c n piece. numeral_shaped c limit n piece;
+      shaped = λ c n piece. numeral_eased (to_shape c) limit n piece;
       sample = (0, 48 ∷ [], naught limit);
       shared = number_shared limit;
       seen = number_seen limit;
       reads = λ c n piece rest text at g stop e. number_reads text at limit c n piece rest g stop e;
     }
 
--- ten digits are no more than this
-limited_by : (at limit : ℕ) (p : ℕ × ℕ) (empty longer : Result (ℕ × ℕ) Fault) (a b : Bool) → and_then empty (λ q. cond (ltb limit q.0) (Err (Reading (Number at))) (Ok q)) ≡ empty → and_then longer (λ q. cond (ltb limit q.0) (Err (Reading (Number at))) (Ok q)) ≡ longer → ltb 9999999999 p.0 ≡ false
-    → cond a empty (cond b longer (cond (ltb limit p.0) (Err (Reading (Number at))) (Ok p))) ≡ and_then (cond a empty (cond b longer (cond (ltb 9999999999 p.0) (Err (Reading (Number at))) (Ok p)))) (λ q. cond (ltb limit q.0) (Err (Reading (Number at))) (Ok q))
+-- ten digits are no more than this, so it limits no number
+abbrev pub unlimited : ℕ
+unlimited = 9999999999
+
+limited_by : (at limit : ℕ) (p : ℕ × ℕ) (empty longer : Result (ℕ × ℕ) Fault) (a b : Bool) → and_then empty (λ q. cond (ltb limit q.0) (Err (Reading (Number at))) (Ok q)) ≡ empty → and_then longer (λ q. cond (ltb limit q.0) (Err (Reading (Number at))) (Ok q)) ≡ longer → ltb unlimited p.0 ≡ false
+    → cond a empty (cond b longer (cond (ltb limit p.0) (Err (Reading (Number at))) (Ok p))) ≡ and_then (cond a empty (cond b longer (cond (ltb unlimited p.0) (Err (Reading (Number at))) (Ok p)))) (λ q. cond (ltb limit q.0) (Err (Reading (Number at))) (Ok q))
 limited_by at limit p empty longer true b n m e = sym n
 limited_by at limit p empty longer false true n m e = sym m
 limited_by at limit p empty longer false false n m e = ap (λ t. and_then (cond t (Err (Reading (Number at))) (Ok p)) (λ q. cond (ltb limit q.0) (Err (Reading (Number at))) (Ok q))) (sym e)
 
 -- a limit is a test of what is read without it
-pub number_limited : (text : List ℕ) (at limit : ℕ) → number_at text at limit ≡ and_then (number_at text at 9999999999) (λ q. cond (ltb limit q.0) (Err (Reading (Number at))) (Ok q))
+pub number_limited : (text : List ℕ) (at limit : ℕ) → number_at text at limit ≡ and_then (number_at text at unlimited) (λ q. cond (ltb limit q.0) (Err (Reading (Number at))) (Ok q))
 unfolding number_at
 number_limited text at limit =
     let r = run text at 10 in
     let p = digits_from text at 10 in
     let small : digits_value 10 r.piece < 10 ^ 10 = digits_value_short (numerals_by_value (AllDigits 10) tells_digits) r.piece 10 r.digits r.most in
     let same : p.0 ≡ digits_value 10 r.piece = ap (λ (q : ℕ × ℕ). q.0) r.found in
-    let low : p.0 ≤ 9999999999 = omega (arith, small, same) in
-    limited_by at limit p (wrong_at at) (wrong_at p.1) (eqb p.1 at) (is_some (digit_at text p.1)) refl refl (le-ltb 9999999999 p.0 low)
+    let low : p.0 ≤ unlimited = omega (arith, small, same) in
+    limited_by at limit p (wrong_at at) (wrong_at p.1) (eqb p.1 at) (is_some (digit_at text p.1)) refl refl (le-ltb unlimited p.0 low)

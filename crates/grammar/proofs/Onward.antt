@@ -11,11 +11,12 @@ use Rattle.text.specs.declared.counts.Counts.{Counts}
 use Rattle.text.specs.declared.reader.Stage.{Stage}
 use Rattle.text.specs.declared.reader.Stage.TheVariants.{Start, Atoms, Rules, End}
 use Rattle.grammar.specs.Pieces.{Care, shape, kept, plain, Kept, Followed}
-use Rattle.grammar.proofs.Agreement.{Agrees}
+use Rattle.grammar.specs.Agreement.{Agrees}
 use Rattle.grammar.proofs.Agreeing.{Any, Via, agrees_as, agrees_then, agrees_done}
 use Rattle.grammar.proofs.Choosing.{agrees_never}
 use Rattle.grammar.proofs.Lines.{FormAt}
 use Rattle.grammar.proofs.Rests.{Going, bare, Rest, rest_sample}
+use Rattle.grammar.proofs.Following.{onto}
 
 -- what is read, changed
 agrees_map : {X Y : Type 0} (f : X → Y) (P : List ℕ → ℕ → Result (X × ℕ) Fault) (G : Care → X → List ℕ → Type 0) → Agrees P G Any → Agrees (λ text at. and_then (P text at) (λ p. Ok (f p.0, p.1))) (λ c y piece. (x : X) × (y ≡ f x) × G c x piece) Any
@@ -116,23 +117,23 @@ module _ {S : Type 0} (word : List ℕ) (spells : Care → S → List ℕ → Ty
   late_lines (suc n) [] a r c piece l h = via n Rules a r c bare end_line piece (record { front = piece; back = []; whole = sym (append-nil piece); first = h; second = (refl, refl) })
   late_lines (suc n) (o ∷ os) a r c piece l h =
       via n Rules a r c (record { atoms = []; rules = o ∷ os }) (rule_line o) piece
-      (record { front = h.front; back = h.back; whole = h.whole; first = h.first; second = (record { atoms = []; rules = os }, refl, late_lines n os a (r + 1) c h.back (omega arith) h.second) })
+      (onto h (record { atoms = []; rules = os }, refl, late_lines n os a (r + 1) c h.back (omega arith) h.second))
 
   atoms_lines : (n : ℕ) (xs : List (Atom S)) (os : List (Option Rule)) (a r : ℕ) (c : Care) (piece : List ℕ) → length xs + length os < n → rest Atoms a r c (record { atoms = xs; rules = os }) piece → Lines n Atoms a r c (record { atoms = xs; rules = os }) piece
   atoms_lines zero xs os a r c piece l h = absurd (omega arith)
   atoms_lines (suc n) [] [] a r c piece l h = via n Atoms a r c bare end_line piece (record { front = piece; back = []; whole = sym (append-nil piece); first = h; second = (refl, refl) })
   atoms_lines (suc n) [] (o ∷ os) a r c piece l h =
       via n Atoms a r c (record { atoms = []; rules = o ∷ os }) (rule_line o) piece
-      (record { front = h.front; back = h.back; whole = h.whole; first = h.first; second = (record { atoms = []; rules = os }, refl, late_lines n os a (r + 1) c h.back (omega arith) h.second) })
+      (onto h (record { atoms = []; rules = os }, refl, late_lines n os a (r + 1) c h.back (omega arith) h.second))
   atoms_lines (suc n) (x ∷ xs) os a r c piece l h =
       via n Atoms a r c (record { atoms = x ∷ xs; rules = os }) (atom_line x) piece
-      (record { front = h.front; back = h.back; whole = h.whole; first = h.first; second = (record { atoms = xs; rules = os }, refl, atoms_lines n xs os (a + 1) r c h.back (omega arith) h.second) })
+      (onto h (record { atoms = xs; rules = os }, refl, atoms_lines n xs os (a + 1) r c h.back (omega arith) h.second))
 
   -- as many forms as the book has are enough
   pub start_lines : (n : ℕ) (a r : ℕ) (c : Care) (m : Meaning S) (piece : List ℕ) → length m.atoms + length m.rules < n → rest Start a r c m piece → Lines (suc n) Start a r c m piece
   start_lines n a r c m piece l h =
       via n Start a r c m order_line piece
-      (record { front = h.front; back = h.back; whole = h.whole; first = h.first; second = atoms_lines n m.atoms m.rules a r c h.back l h.second })
+      (onto h (atoms_lines n m.atoms m.rules a r c h.back l h.second))
 
 module _ {S : Type 0} (stamp_at : List ℕ → ℕ → Result (S × ℕ) Fault) (word : List ℕ) (spells : Care → S → List ℕ → Type 0) (room : Counts)
     (forms : (stage : Stage) → Going stage → (atoms rules : ℕ) → Agrees (λ text at. form_at stamp_at word text room (record { stage = stage; next = at; atoms = atoms; rules = rules })) (FormAt word spells room stage atoms rules) (λ _. Unit {0})) where

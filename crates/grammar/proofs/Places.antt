@@ -2,7 +2,7 @@
 use Rattle.std.proofs.Common.{◌≡◌, ℕ, zero, suc, ◌+◌, List, [], ◌∷◌, ◌++◌, length, drop, Some, sym, refl, ap, ◌∙◌, add-one, arith}
 use Rattle.std.proofs.lemmas.List.{append_assoc, length-append, drop-drop, drop_at}
 use Rattle.std.specs.List.{slice_get}
-use Rattle.grammar.proofs.Agreement.{Between}
+use Rattle.grammar.specs.Agreement.{Between}
 
 -- the byte at a place is the first of what stands from it on
 pub slice_get_front : (text : List ℕ) (at : ℕ) → slice_get text at ≡ slice_get (drop at text) 0

@@ -11,7 +11,8 @@ use Rattle.stamps.specs.declared.route.Route.{Route}
 use Rattle.text.specs.Spelt.{up_to, space, opening, shutting, list_text, aisle_text, route_text}
 use Rattle.grammar.specs.Pieces.{kept, plain, Listed}
 use Rattle.grammar.specs.Stamps.{RisingFrom, with_aisles, RouteSpelt}
-use Rattle.grammar.proofs.Canonical.{after_first, spaced_text, list_text_lem, list_canonical, list_unique, list_within}
+use Rattle.grammar.proofs.Canonical.{after_first, spaced_text, list_text_lem, list_canonical, list_unique}
+use Rattle.grammar.proofs.Keeping.{list_within}
 
 -- a rising list of numbers below n, and the mask of its aisles
 data Marked : ℕ → List ℕ → ℕ → Type 0 where

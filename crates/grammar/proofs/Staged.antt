@@ -13,15 +13,14 @@ use Rattle.text.specs.declared.reader.Stage.{Stage}
 use Rattle.text.specs.declared.reader.Stage.TheVariants.{Start, Atoms, Rules, End}
 use Rattle.grammar.specs.Pieces.{Care, Exactly, Followed}
 use Rattle.grammar.specs.Grammar.{OrderForm, Numbered, Declared, Body}
-use Rattle.grammar.proofs.Agreement.{Agrees}
+use Rattle.grammar.specs.Agreement.{Agrees, NoDigit}
 use Rattle.grammar.proofs.Agreeing.{Any, agrees_same, agrees_as, agrees_done, byte_then_at, word_then}
 use Rattle.grammar.proofs.Choosing.{agrees_choice}
 use Rattle.grammar.proofs.Dispatch.{atom_word, rule_word, void_word, rule_rest, void_rest, atom_rest, after_atom, after_rule, after_void, after_end, start_same, rules_same, atoms_same}
-use Rattle.grammar.proofs.Following.{under, regroup, ungroup, ended, unended, word_to, word_from, first_of}
+use Rattle.grammar.proofs.Following.{under, regroup, ungroup, ended, unended, word_to, word_from, first_of, onto}
 use Rattle.grammar.proofs.Formed.{Parts}
 use Rattle.grammar.proofs.Forms.{RuleRest, rule_rest_agrees, VoidRest, void_rest_agrees, EndRest, end_rest_agrees, AtomRest, atom_rest_agrees}
 use Rattle.grammar.proofs.Lines.{LateForm, FormAt}
-use Rattle.grammar.proofs.Numbers.{NoDigit}
 use Rattle.grammar.proofs.Rests.{Going}
 
 -- the parts of a rule and the end of its form, bracketed as the grammar has them
@@ -89,17 +88,17 @@ module _ {S : Type 0} (stamp_at : List ℕ → ℕ → Result (S × ℕ) Fault) 
 
   -- a bracket and then a form's word are its opening
   opened : (rest : List ℕ) (A B : List ℕ → Type 0) (text : List ℕ) (f : Followed (Exactly (40 ∷ [])) A text) → Followed (Exactly rest) B f.back → Followed (Exactly (40 ∷ rest)) B text
-  opened rest A B text f g = word_to 40 rest B text (record { front = f.front; back = f.back; whole = f.whole; first = f.first; second = g })
+  opened rest A B text f g = word_to 40 rest B text (onto f g)
 
   late_to : (c : Care) (y : Line S) (text : List ℕ) (A : List ℕ → Type 0) (f : Followed (Exactly (40 ∷ [])) A text) → Late c y f.back → LateForm word spells room atoms rules c y text
   late_to c y text A f (inl g) =
       let (r, e, k, h) = g.second in
       let body = under (Numbered c rules) (Followed (Parts c atoms r) (Exactly closing)) (Closing c atoms r) g.back (parts_open c atoms r) h in
-      let whole : Followed (Exactly rule_opening) (Followed (Numbered c rules) (Closing c atoms r)) text = opened rule_word A (Followed (Numbered c rules) (Closing c atoms r)) text f (record { front = g.front; back = g.back; whole = g.whole; first = g.first; second = body }) in
+      let whole : Followed (Exactly rule_opening) (Followed (Numbered c rules) (Closing c atoms r)) text = opened rule_word A (Followed (Numbered c rules) (Closing c atoms r)) text f (onto g body) in
       subst (λ x. LateForm word spells room atoms rules c x text) (sym e) (k, whole)
   late_to c y text A f (inr (inl g)) =
       let (e, k, h) = g.second in
-      let whole : Followed (Exactly void_opening) (Followed (Numbered c rules) (Exactly closing)) text = opened void_word A (Followed (Numbered c rules) (Exactly closing)) text f (record { front = g.front; back = g.back; whole = g.whole; first = g.first; second = h }) in
+      let whole : Followed (Exactly void_opening) (Followed (Numbered c rules) (Exactly closing)) text = opened void_word A (Followed (Numbered c rules) (Exactly closing)) text f (onto g h) in
       subst (λ x. LateForm word spells room atoms rules c x text) (sym e) (k, whole)
   late_to c y text A f (inr (inr g)) =
       let whole : text ≡ end_text = f.whole ∙ ap (λ t. t ++ f.back) f.first ∙ ap (λ t. 40 ∷ t) g.1 in
@@ -111,12 +110,12 @@ module _ {S : Type 0} (stamp_at : List ℕ → ℕ → Result (S × ℕ) Fault) 
   late_from c (rule_line None) text h =
       let f = word_from 40 void_word (Followed (Numbered c rules) (Exactly closing)) text h.1 in
       let g = f.second in
-      record { front = f.front; back = f.back; whole = f.whole; first = f.first; second = inr (inl (record { front = g.front; back = g.back; whole = g.whole; first = g.first; second = (refl, h.0, g.second) })) }
+      onto f (inr (inl (onto g (refl, h.0, g.second))))
   late_from c (rule_line (Some r)) text h =
       let f = word_from 40 rule_word (Followed (Numbered c rules) (Closing c atoms r)) text h.1 in
       let g = f.second in
       let body = under (Numbered c rules) (Closing c atoms r) (Followed (Parts c atoms r) (Exactly closing)) g.back (parts_shut c atoms r) g.second in
-      record { front = f.front; back = f.back; whole = f.whole; first = f.first; second = inl (record { front = g.front; back = g.back; whole = g.whole; first = g.first; second = (r, refl, h.0, body) }) }
+      onto f (inl (onto g (r, refl, h.0, body)))
   late_from c end_line text h =
       record { front = 40 ∷ []; back = codes "end)\n"; whole = h; first = refl; second = inr (inr (refl, refl)) }
 
@@ -157,7 +156,7 @@ module _ {S : Type 0} (stamp_at : List ℕ → ℕ → Result (S × ℕ) Fault) 
   early_to : (c : Care) (y : Line S) (text : List ℕ) (A : List ℕ → Type 0) (f : Followed (Exactly (40 ∷ [])) A text) → Early c y f.back → FormAt word spells room Atoms atoms rules c y text
   early_to c y text A f (inl g) =
       let (a, e, k, h) = g.second in
-      let whole : Followed (Exactly atom_opening) (AtomTail c a) text = opened atom_word A (AtomTail c a) text f (record { front = g.front; back = g.back; whole = g.whole; first = g.first; second = h }) in
+      let whole : Followed (Exactly atom_opening) (AtomTail c a) text = opened atom_word A (AtomTail c a) text f (onto g h) in
       subst (λ x. FormAt word spells room Atoms atoms rules c x text) (sym e) (k, whole)
   early_to c y text A f (inr g) = late_early c y text (late_to c y text A f g)
 
@@ -166,7 +165,7 @@ module _ {S : Type 0} (stamp_at : List ℕ → ℕ → Result (S × ℕ) Fault) 
   early_from c (atom_line a) text h =
       let f = word_from 40 atom_word (AtomTail c a) text h.1 in
       let g = f.second in
-      record { front = f.front; back = f.back; whole = f.whole; first = f.first; second = inl (record { front = g.front; back = g.back; whole = g.whole; first = g.first; second = (a, refl, h.0, g.second) }) }
+      onto f (inl (onto g (a, refl, h.0, g.second)))
   early_from c (rule_line r) text h = under (Exactly (40 ∷ [])) (Late c (rule_line r)) (Early c (rule_line r)) text (λ t l. inr l) (late_from c (rule_line r) text h)
   early_from c end_line text h = under (Exactly (40 ∷ [])) (Late c end_line) (Early c end_line) text (λ t l. inr l) (late_from c end_line text h)
 

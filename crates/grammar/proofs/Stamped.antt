@@ -5,15 +5,15 @@ use Rattle.stamps.specs.declared.then.Then.{Then}
 use Rattle.text.specs.Bytes.{and_then, pass_at}
 use Rattle.text.specs.Numbers.{digit_of, number_at}
 use Rattle.text.specs.Stamps.{tick_at, pair_at}
-use Rattle.grammar.specs.Pieces.{Care, Exactly, Followed, Numeral}
+use Rattle.grammar.specs.Pieces.{Care, Exactly, Followed, Numeral, largest}
 use Rattle.grammar.specs.Stamps.{TickSpelt, PairSpelt}
-use Rattle.grammar.proofs.Agreement.{Agrees}
+use Rattle.grammar.specs.Agreement.{Agrees, NoDigit}
 use Rattle.grammar.proofs.Agreeing.{Any, Via, agrees_as, agrees_then, agrees_done, byte_then}
-use Rattle.grammar.proofs.Following.{ended, unended, first_of}
-use Rattle.grammar.proofs.Numbers.{number_agrees, NoDigit}
+use Rattle.grammar.proofs.Following.{ended, unended, first_of, onto}
+use Rattle.grammar.proofs.Numbers.{number_agrees}
 
 abbrev Ticked : Care → ℕ → List ℕ → Type 0
-Ticked c v piece = Numeral c 4294967295 v piece
+Ticked c v piece = Numeral c largest v piece
 
 abbrev IsTick : ℕ → Care → Tick → List ℕ → Type 0
 IsTick v c t piece = (t ≡ record { 0 = v }) × (piece ≡ [])
@@ -21,7 +21,7 @@ IsTick v c t piece = (t ≡ record { 0 = v }) × (piece ≡ [])
 pub tick_agrees : Agrees tick_at TickSpelt NoDigit
 tick_agrees =
     agrees_as tick_at (Via Ticked IsTick) TickSpelt NoDigit to from
-    (agrees_then (λ text at. number_at text at 4294967295) (λ at v text m. Ok (record { 0 = v }, m)) Ticked IsTick NoDigit NoDigit (number_agrees 4294967295) (λ at v. agrees_done (record { 0 = v }) NoDigit)
+    (agrees_then (λ text at. number_at text at largest) (λ at v text m. Ok (record { 0 = v }, m)) Ticked IsTick NoDigit NoDigit (number_agrees largest) (λ at v. agrees_done (record { 0 = v }) NoDigit)
     (λ c v t piece rest h s. subst (λ p. NoDigit (p ++ rest)) (sym h.1) s))
   where
     to : (c : Care) (t : Tick) (text : List ℕ) → Via Ticked IsTick c t text → TickSpelt c t text
@@ -58,12 +58,12 @@ pair_agrees =
         let b = g.second in
         let close = ended (Exactly (41 ∷ [])) (p ≡ record { first = a.value; second = b.value }) b.parts.back b.parts.second in
         subst (λ x. PairSpelt c x text) (sym b.parts.second.second.0)
-        (record { front = f.front; back = f.back; whole = f.whole; first = f.first; second = record { front = a.parts.front; back = a.parts.back; whole = a.parts.whole; first = a.parts.first; second = record { front = g.front; back = g.back; whole = g.whole; first = g.first; second = record { front = b.parts.front; back = b.parts.back; whole = b.parts.whole; first = b.parts.first; second = close } } } })
+        (onto f (onto a.parts (onto g (onto b.parts close))))
 
     from : (c : Care) (p : Then Tick Tick) (text : List ℕ) → PairSpelt c p text → Followed (Exactly (40 ∷ [])) (First c p) text
     from c p text f =
         let g = f.second in
         let h = g.second in
         let i = h.second in
-        let second : Second p.first c p h.back = record { value = p.second; parts = record { front = i.front; back = i.back; whole = i.whole; first = i.first; second = unended (Exactly (41 ∷ [])) (p ≡ p) i.back refl i.second } } in
-        record { front = f.front; back = f.back; whole = f.whole; first = f.first; second = record { value = p.first; parts = record { front = g.front; back = g.back; whole = g.whole; first = g.first; second = record { front = h.front; back = h.back; whole = h.whole; first = h.first; second = second } } } }
+        let second : Second p.first c p h.back = record { value = p.second; parts = onto i (unended (Exactly (41 ∷ [])) (p ≡ p) i.back refl i.second) } in
+        onto f (record { value = p.first; parts = onto g (onto h second) })

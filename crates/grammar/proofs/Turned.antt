@@ -17,7 +17,7 @@ use Rattle.text.specs.declared.counts.Counts.{Counts}
 use Rattle.text.specs.declared.reader.Stage.{Stage}
 use Rattle.text.specs.declared.reader.Stage.TheVariants.{Start, Atoms, Rules, End}
 use Rattle.grammar.specs.Pieces.{Care, kept, Exactly, Followed}
-use Rattle.grammar.proofs.Agreement.{Between, Seen, Agrees}
+use Rattle.grammar.specs.Agreement.{Between, Seen, Agrees}
 use Rattle.grammar.proofs.Agreeing.{then_then}
 use Rattle.grammar.proofs.Lines.{FormAt}
 use Rattle.grammar.proofs.Onward.{with_atom, with_rule, onward, lines}

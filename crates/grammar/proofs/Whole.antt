@@ -14,7 +14,7 @@ use Rattle.text.specs.declared.reader.Stage.{Stage}
 use Rattle.text.specs.declared.reader.Stage.TheVariants.{Start}
 use Rattle.grammar.specs.Pieces.{Care, shape, kept, Kept}
 use Rattle.grammar.specs.Grammar.{Spells}
-use Rattle.grammar.proofs.Agreement.{AtByte, Same, Shared, Between, Seen, ShapeOnly, Reads, Agrees}
+use Rattle.grammar.specs.Agreement.{AtByte, Same, Shared, Between, Seen, ShapeOnly, Reads, Agrees}
 use Rattle.grammar.proofs.Agreeing.{Reaches, Via, agrees_then, shared_from}
 use Rattle.grammar.proofs.Lines.{FormAt}
 use Rattle.grammar.proofs.Onward.{lines, Lines, lines_rest, start_lines, lines_agree}
@@ -184,10 +184,3 @@ module _ {S : Type 0} (stamp_at : List ℕ → ℕ → Result (S × ℕ) Fault) 
   book_none text k e l more m h =
       let other = take (k + 1) text ++ more in
       never_byte shape (book other) m k (book_reads shape other m h tt) (book_shared text other k e (same_front text more k l))
-
-  -- a text that keeps every rule has the shape
-  pub book_shaped : (text : List ℕ) (m : Meaning S) → length m.atoms ≤ room.atoms → length m.rules ≤ room.rules → Spells word spells kept m text → Spells word spells shape m text
-  book_shaped text m a r h =
-      let n = length m.atoms + length m.rules + 1 in
-      let parts = rest_forms n kept m text (omega arith) (spells_rest word spells room kept m text (a, r) h) in
-      rest_spells word spells room shape m text (forms_rest (suc n) shape m text ((whole_agrees (suc n)).shaped kept m text parts))

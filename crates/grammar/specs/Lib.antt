@@ -1,7 +1,9 @@
 pub mod Pieces
 pub mod Stamps
 pub mod Grammar
+pub mod Agreement
 pub mod Notations
+pub mod Lawful
 pub mod Theorems
 pub mod Examples
 pub mod Programs

@@ -17,6 +17,10 @@ pub record Notation (S : Type 0) : Type 1 where
   pub spelt : S → List ℕ
   pub Fits : S → Type 0
 
+-- a kind by its members
+abbrev pub notation_of : {S : Type 0} → List ℕ → (List ℕ → ℕ → Result (S × ℕ) Fault) → (S → List ℕ) → (Care → S → List ℕ → Type 0) → (S → Type 0) → Notation S
+notation_of word stamp_at spelt spells Fits = record { word = word; spells = spells; stamp_at = stamp_at; spelt = spelt; Fits = Fits }
+
 -- a tick has 32 bits
 abbrev pub ticks : Notation Tick
 ticks = record { word = codes "tick"; spells = TickSpelt; stamp_at = tick_at; spelt = tick_text; Fits = λ t. t.0 < 2 ^ 32 }

@@ -97,3 +97,13 @@ module _ {S : Type 0} (n : Notation S) where
   -- it is so of every text that is refused for a byte
   abbrev pub RefusedAtTheFirstByte : Type 0
   RefusedAtTheFirstByte = (text : List ℕ) (atoms rules k : ℕ) → read_as text atoms rules ≡ Err (Reading (Byte k)) → RefusedThere text k
+
+  -- all of it: the laws of the text at a kind of stamp
+  pub record TextLaws : Type 0 where
+    pub reading : ReadingIsTheGrammar
+    pub degrees : DegreesNest
+    pub back : WrittenIsReadBack
+    pub accepted : AcceptedComesBack
+    pub unchanged : CanonicalIsUnchanged
+    pub answer : AnswerIsItsOwn
+    pub refused : RefusedAtTheFirstByte

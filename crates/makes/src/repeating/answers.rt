@@ -24,7 +24,7 @@ impl Repeating<'_> {
             return None;
         }
         let slot = self.slots[atom % width];
-        // The quotient is a tick, which is at most 1,024: a conversion that may fail would have nothing to refuse.
+        // A cast, since the quotient is below 1,024: a conversion that may fail would have nothing to refuse.
         let first = Tick((atom / width) as u32);
         let second = Tick(u32::from(slot.stage));
         Some(AtomRow {
@@ -46,6 +46,8 @@ impl Repeating<'_> {
     }
 }
 
+// The answers are those of a flat book over a row. They are not one blanket impl: that would overlap with the struck book's.
+#[tactic(auto, using(crate::proofs::Ticks::lengths))]
 impl Book for Repeating<'_> {
     type Stamp = Then<Tick, Tick>;
 

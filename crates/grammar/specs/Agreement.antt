@@ -1,9 +1,10 @@
 -- A reader of pieces agrees with a grammar of pieces.
-use Rattle.std.proofs.Common.{◌≡◌, ℕ, ◌+◌, ◌≤◌, ◌⊎◌, List, ◌++◌, length, drop, Ok, Err, Result}
+use Rattle.std.specs.Prelude.{◌≡◌, ℕ, ◌+◌, ◌≤◌, ◌⊎◌, List, ◌++◌, length, drop, None, Ok, Err, Result}
 use Rattle.std.specs.List.{slice_get}
 use Rattle.books.specs.declared.fault.ReadFault.TheVariants.{Byte, NotRising, Number, TooMany, AtomMissing}
 use Rattle.books.specs.declared.fault.Fault.{Fault}
 use Rattle.books.specs.declared.fault.Fault.TheVariants.{Reading, Checking, Making}
+use Rattle.text.specs.Numbers.{digit_of}
 use Rattle.grammar.specs.Pieces.{Care, shape, kept, plain}
 
 -- P of the place, where the fault is a byte that is not allowed
@@ -52,3 +53,7 @@ pub record Agrees {X : Type 0} (P : List ℕ → ℕ → Result (X × ℕ) Fault
   pub shared : (text other : List ℕ) (at : ℕ) → Shared (P text at) (P other at) text other
   pub seen : (text : List ℕ) (at : ℕ) → Seen G (P text at) text at
   pub reads : (c : Care) (x : X) (piece rest text : List ℕ) (at : ℕ) → G c x piece → Stop rest → drop at text ≡ piece ++ rest → Reads c (P text at) x (at + length piece)
+
+-- a text that does not begin with a digit
+abbrev pub NoDigit : List ℕ → Type 0
+NoDigit rest = digit_of (slice_get rest 0) ≡ None
