@@ -15,7 +15,7 @@ mod seven;
 #[cfg(test)]
 mod sheets;
 
-use books::fault::{Fault, Refusal, Values};
+use books::fault::{Fault, Layer, Refusal, Values};
 use makes::body::Body;
 use makes::rows::{AtomRow, RuleRow};
 use stamps::route::Route;
@@ -66,13 +66,11 @@ fn refusal<S: Mark>(
     atoms: &mut [AtomRow<S>],
     rules: &mut [Option<RuleRow>],
 ) -> Option<Refusal> {
-    let fault = match read::<S>(text, atoms, rules) {
-        Ok(_) => return None,
-        Err(fault) => fault,
-    };
-    let stays = atoms.iter().all(|row| marked_row(*row))
-        && rules.iter().all(|row| marked_rule(*row));
-    stays.then_some(fault.refusal())
+    let fault = read::<S>(text, atoms, rules).err()?;
+    if !atoms.iter().all(|row| marked_row(*row)) || !rules.iter().all(|row| marked_rule(*row)) {
+        return None;
+    }
+    Some(fault.refusal())
 }
 
 fn mark_row<S: Mark>() -> AtomRow<S> {
@@ -108,31 +106,34 @@ fn then_refusal(text: &[u8]) -> Option<Refusal> {
 
 // The fault of a text with route stamps, which says more than its refusal does.
 fn route_fault(text: &[u8]) -> Option<Fault> {
-    match read::<Route>(text, &mut [mark_row::<Route>(); 4], &mut [mark_rule(); 3]) {
-        Ok(_) => None,
-        Err(fault) => Some(fault),
-    }
+    read::<Route>(text, &mut [mark_row::<Route>(); 4], &mut [mark_rule(); 3]).err()
 }
 
 // The row is a rule with this head and these lists.
 fn is_rule(row: &Option<RuleRow>, head: usize, positives: &[usize], negatives: &[usize]) -> bool {
-    match row {
-        Some(rule) => rule.head == head
+    row.is_some_and(|rule| {
+        rule.head == head
             && *rule.positives.as_slice() == *positives
-            && *rule.negatives.as_slice() == *negatives,
-        None => false,
-    }
+            && *rule.negatives.as_slice() == *negatives
+    })
 }
 
-// The text is refused with this number at this place, and the tables stay.
-fn refused_at(refusal: Option<Refusal>, number: u8, place: usize) -> bool {
-    refusal.is_some_and(|found| found.number == number && found.values == Values::One(place))
+// A refusal of the reader, with the place of the fault.
+fn refused_at(number: u8, place: usize) -> Option<Refusal> {
+    Some(Refusal {
+        layer: Layer::Reading,
+        number,
+        values: Values::One(place),
+    })
 }
 
-// The text is refused with 4 at this rule and literal, and the tables stay.
-fn undeclared(text: &[u8], rule: usize, literal: usize) -> bool {
-    let values = Values::RuleLiteral(rule, literal);
-    tick_refusal(text).is_some_and(|found| found.number == 4 && found.values == values)
+// The refusal of an atom that the text does not have, at this rule and literal.
+fn undeclared(rule: usize, literal: usize) -> Option<Refusal> {
+    Some(Refusal {
+        layer: Layer::Reading,
+        number: 4,
+        values: Values::RuleLiteral(rule, literal),
+    })
 }
 
 // What the program prints for an input, compared with what is expected.
@@ -149,18 +150,14 @@ fn replies(text: &[u8], expected: &[u8]) -> bool {
         rules: &mut rules,
     };
     let length = reply(text, tables, &mut sheet);
-    if length > sheet.len() {
-        return false;
-    }
     begins_with(&sheet, expected, length)
 }
 
 // The first `length` bytes of the sheet are the expected ones, and the rest are as they were.
 fn begins_with(sheet: &[u8], expected: &[u8], length: usize) -> bool {
-    expected.len() == length
-        && length <= sheet.len()
-        && sheet[..length] == expected[..]
-        && sheet[length..].iter().all(|byte| *byte == b'#')
+    sheet.split_at_checked(length).is_some_and(|(written, rest)| {
+        *written == *expected && rest.iter().all(|byte| *byte == b'#')
+    })
 }
 
 // Lays two runs of bytes on a sheet, one after the other, and answers their length. What falls beyond the end is lost.
