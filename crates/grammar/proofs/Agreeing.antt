@@ -182,8 +182,8 @@ module _ {X : Type 0} (e : Fault) (other-fault : AtByte e (λ _. ⊥)) (P : List
   reads_if : (b : Bool) (c : Care) (x : X) (piece rest text : List ℕ) (at : ℕ) → Kept c (b ≡ true) → G c x piece → Stop rest → drop at text ≡ piece ++ rest → Reads c (go b text at) x (at + length piece)
   reads_if true c x piece rest text at k g s d = a.reads c x piece rest text at g s d
   reads_if false shape x piece rest text at k g s d = inr (tt, (e, refl, other-fault))
-  reads_if false kept x piece rest text at k g s d = let z : ◌≡◌ {A = ℕ} 0 1 = cc in absurd (omega arith)
-  reads_if false plain x piece rest text at k g s d = let z : ◌≡◌ {A = ℕ} 0 1 = cc in absurd (omega arith)
+  reads_if false kept x piece rest text at k g s d = absurd (grind arith)
+  reads_if false plain x piece rest text at k g s d = absurd (grind arith)
 
   pub agrees_if : (b : Bool) → Agrees (go b) (Passed b) Stop
   agrees_if b =

@@ -47,7 +47,7 @@ word_first b word text at K = ap (λ r. and_then r K) (byte_first b text at (pas
 -- a word with which the text does not begin is refused where they part
 word_refused : {X : Type 0} (word text : List ℕ) (at : ℕ) (K : ℕ → Result X Fault) → begins word (drop at text) ≡ false → and_then (pass_word word text at) K ≡ wrong_at (agrees_to word text at)
 unfolding agrees_to
-word_refused [] text at K h = let z : ◌≡◌ {A = ℕ} 0 1 = cc in absurd (omega arith)
+word_refused [] text at K h = absurd (grind arith)
 word_refused {X} (b ∷ word) text at K h = word_first b word text at K ∙ parts (is_byte b (slice_get text at)) (begins word (drop (at + 1) text)) (and_then (pass_word word text (at + 1)) K) (agrees_to word text (at + 1)) (word_refused word text (at + 1) K) (sym (begins_step b word text at) ∙ h)
   where
     parts : (t u : Bool) (r : Result X Fault) (j : ℕ) → (u ≡ false → r ≡ wrong_at j) → (t && u) ≡ false → cond t r (wrong_at at) ≡ wrong_at (cond t j at)

@@ -32,7 +32,7 @@ GaplessRow atoms (Some r) = GaplessRule atoms r
 -- no fault comes of a choice only where the choice is the one without it
 passes : {X : Type 0} (b : Bool) (x : X) (o : Option X) → cond b o (Some x) ≡ None → (b ≡ true) × (o ≡ None)
 passes true x o e = (refl, e)
-passes false x o e = let z : ◌≡◌ {A = ℕ} 0 1 = cc in absurd (omega arith)
+passes false x o e = absurd (grind arith)
 
 -- bodies that are short enough go on to what comes after them
 short_on : {X : Type 0} (a b : ℕ) (x y : X) → a ≤ 6 → b ≤ 6 → cond (ltb 6 a || ltb 6 b) x y ≡ y
@@ -67,8 +67,7 @@ module _ {S : Type 0} (m : Meaning S) where
         | inl below ↦ below
         | inr past ↦
             let none : slice_get m.atoms a ≡ None = slice_get_past m.atoms a past in
-            let z : ◌≡◌ {A = ℕ} 0 1 = cc in
-            absurd (omega arith)
+            absurd (grind arith)
       ]
 
   literals_below : (fault : ℕ → CheckFault) (ns : List ℕ) → ((i : ℕ) → i < length ns → option_and_then (missing m (fault i)) (slice_get ns i) ≡ None) → AllByRecursion (λ n. n < count) ns

@@ -106,8 +106,8 @@ module _ {S : Type 0} (n : Notation S) (l : Lawful n) where
   -- where a book is checked and written, its text is what is answered
   written_answer : (m : Meaning S) (checked : Result (Unit {0}) Fault) (written : Result ℕ Fault) (answer : List ℕ) → and_then checked (λ _. and_then written (λ _. Ok (written_of n m))) ≡ Ok answer → answer ≡ written_of n m
   written_answer m (Ok u) (Ok k) answer e = let same : written_of n m ≡ answer = cc in sym same
-  written_answer m (Ok u) (Err f) answer e = let z : ◌≡◌ {A = ℕ} 0 1 = cc in absurd (omega arith)
-  written_answer m (Err f) written answer e = let z : ◌≡◌ {A = ℕ} 0 1 = cc in absurd (omega arith)
+  written_answer m (Ok u) (Err f) answer e = absurd (grind arith)
+  written_answer m (Err f) written answer e = absurd (grind arith)
 
   pub answer_is_its_own : AnswerIsItsOwn n
   answer_is_its_own tests text answer atoms rules room e = by_book (read_as n text atoms rules) refl e
@@ -117,7 +117,7 @@ module _ {S : Type 0} (n : Notation S) (l : Lawful n) where
           let same = written_answer m (unless (book_fault tests m)) (write_answer (book_gap m) (length (written_of n m)) room) answer h in
           let again : read_as n answer atoms rules ≡ Ok m = ap (λ t. read_as n t atoms rules) same ∙ (accepted_comes_back_lem text atoms rules m read).same in
           ap (λ r. and_then r (λ m. checked_text n.word n.spelt tests m room)) again ∙ h
-      by_book (Err f) read h = let z : ◌≡◌ {A = ℕ} 0 1 = cc in absurd (omega arith)
+      by_book (Err f) read h = absurd (grind arith)
 
   pub refused_at_the_first_byte_lem : RefusedAtTheFirstByte n
   refused_at_the_first_byte_lem text atoms rules k e =

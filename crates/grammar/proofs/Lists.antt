@@ -1,7 +1,7 @@
 -- Numbers in brackets, each tested as it is read, agree with the grammar of lists.
 use Rattle.std.proofs.Common.{◌≡◌, ℕ, zero, suc, ◌<◌, Bool, true, false, cond, ◌⊎◌, List, [], ◌∷◌, ◌++◌, Ok, Err, Result, sym, refl, ap, ◌∙◌, subst, inl, inr, arith}
 use Rattle.std.proofs.lemmas.List.{append_assoc}
-use Rattle.std.proofs.lemmas.Bool.{ne_eqb}
+use Rattle.std.proofs.lemmas.Bool.{both_ways, ne_eqb}
 use Rattle.std.specs.List.{slice_get}
 use Rattle.std.specs.Char.{digit_value}
 use Rattle.books.specs.declared.fault.Fault.{Fault}
@@ -23,10 +23,6 @@ starts_digit c limit n (b ∷ text) rest h = ne_eqb b 41 (λ e. not_digit b e h.
   where
     not_digit : (b : ℕ) → b ≡ 41 → digit_value b < 10 → ⊥
     not_digit b e l = let z : digit_value 41 < 10 = subst (λ x. digit_value x < 10) e l in absurd (omega (arith, z))
-
--- no test is both passed and failed
-pub clash : (b : Bool) → b ≡ true → b ≡ false → ⊥
-clash b t f = let z : ◌≡◌ {A = ℕ} 0 1 = cc in absurd (omega arith)
 
 -- what is known so far, with one more number; two tests that refuse it, and their faults
 module _ {A : Type 0} (limit : ℕ) (add : A → ℕ → A) (first second : A → ℕ → Bool) (fault fault2 : ℕ → A → ℕ → Fault) where
@@ -184,11 +180,11 @@ module _ {A : Type 0} (limit : ℕ) (add : A → ℕ → A) (first second : A �
     refused_agrees : (next : List ℕ → ℕ → Result (A × ℕ) Fault) (at : ℕ) (s : A) (v : ℕ) → (first s v ≡ true) ⊎ (second s v ≡ true) → Agrees (tested next at s v) (Tested s v) Any
     refused_agrees next at s v (inl e) =
         agrees_same (λ text place. Err (fault at s v)) _ _ Any (λ text place. ap (λ b. cond b (Err (fault at s v)) (cond (second s v) (Err (fault2 at s v)) (onward next (add s v) text place))) (sym e))
-        (agrees_never (fault at s v) (named at s v) (Tested s v) Any (tested_shaped s v) (tested_sample s v) (λ c t piece h. kept_map c (λ f. clash (first s v) e f) h.0))
+        (agrees_never (fault at s v) (named at s v) (Tested s v) Any (tested_shaped s v) (tested_sample s v) (λ c t piece h. kept_map c (λ f. both_ways (first s v) f e) h.0))
     refused_agrees next at s v (inr e) =
         agrees_unless (fault at s v) (named at s v) (λ text place. cond (second s v) (Err (fault2 at s v)) (onward next (add s v) text place)) (λ c t piece. Kept c (second s v ≡ false) × Onward (add s v) c t piece) Any
         (agrees_same (λ text place. Err (fault2 at s v)) _ _ Any (λ text place. ap (λ b. cond b (Err (fault2 at s v)) (onward next (add s v) text place)) (sym e))
-        (agrees_never (fault2 at s v) (named2 at s v) (λ c t piece. Kept c (second s v ≡ false) × Onward (add s v) c t piece) Any (λ c t piece h. (tt, onward_shaped c (add s v) t piece h.1)) (let x = tested_sample s v in (x.0, x.1, x.2.1)) (λ c t piece h. kept_map c (λ f. clash (second s v) e f) h.0)))
+        (agrees_never (fault2 at s v) (named2 at s v) (λ c t piece. Kept c (second s v ≡ false) × Onward (add s v) c t piece) Any (λ c t piece h. (tt, onward_shaped c (add s v) t piece h.1)) (let x = tested_sample s v in (x.0, x.1, x.2.1)) (λ c t piece h. kept_map c (λ f. both_ways (second s v) f e) h.0)))
         (first s v)
 
     tested_agrees : (next : List ℕ → ℕ → Result (A × ℕ) Fault) (at : ℕ) (s : A) (v : ℕ) → Agrees next (λ c t. Tail c (add s v) t) Any → Agrees (tested next at s v) (Tested s v) Any

@@ -29,7 +29,7 @@ digit_read b h =
 
 -- and the other way about
 digit_kept : (o : Option ℕ) (d : ℕ) → digit_of o ≡ Some d → ((b : ℕ) × (o ≡ Some b) × (digit_value b ≡ d) × (digit_value b < 10))
-digit_kept None d e = let z : ◌≡◌ {A = ℕ} 0 1 = cc in absurd (omega arith)
+digit_kept None d e = absurd (grind arith)
 digit_kept (Some b) d e =
     elim (cases_Bool (leb 48 b && leb b 57)) [
       | inl t ↦
@@ -41,8 +41,7 @@ digit_kept (Some b) d e =
           (b, refl, cc, omega arith)
       | inr n ↦
           let f : None ≡ Some d = sym (cond-false (leb 48 b && leb b 57) (Some (b - 48)) None n) ∙ e in
-          let z : ◌≡◌ {A = ℕ} 0 1 = cc in
-          absurd (omega arith)
+          absurd (grind arith)
     ]
 
 -- the digits that k turns find: k of them, or fewer, and then no digit follows
@@ -82,7 +81,7 @@ run_more text at k run (Some d) e =
       digits = digits_push 10 run.piece b run.digits small;
       most = omega arith;
       found = ap (one_more text) run.found ∙ ap (grown (digits_value 10 run.piece, run.next)) e ∙ ap (λ (v : ℕ). (v, run.next + 1)) grows;
-      ended = λ l. let z = run.ended (omega arith) in let w : ◌≡◌ {A = ℕ} 0 1 = cc in absurd (omega arith);
+      ended = λ l. let z = run.ended (omega arith) in absurd (grind arith);
     }
 
 run : (text : List ℕ) (at k : ℕ) → Run text at k
@@ -147,7 +146,7 @@ naught limit = record { digits = (omega arith, tt); some = omega arith; few = om
 full : (text : List ℕ) (at k : ℕ) (run : Run text at k) (d : ℕ) → digit_at text run.next ≡ Some d → k ≤ length run.piece
 full text at k run d e =
     elim (cases_lt (length run.piece) k) [
-      | inl l ↦ let n = run.ended l in let z : ◌≡◌ {A = ℕ} 0 1 = cc in absurd (omega arith)
+      | inl l ↦ let n = run.ended l in absurd (grind arith)
       | inr l ↦ l
     ]
 
@@ -171,8 +170,7 @@ no_digit : (b : ℕ) (o : Option ℕ) → digit_value b < 10 → o ≡ Some b �
 no_digit b o h e n =
     let d = digit_read b h in
     let f : digit_of o ≡ digit_of (Some b) = ap digit_of e in
-    let z : ◌≡◌ {A = ℕ} 0 1 = cc in
-    omega arith
+    grind arith
 
 -- two runs of digits at one place are one, where neither goes on beyond the other's end
 same_run : (ds es r s : List ℕ) → AllDigits 10 ds → AllDigits 10 es → ds ++ r ≡ es ++ s → (length ds < length es → NoDigit r) → NoDigit s → ds ≡ es
@@ -204,8 +202,7 @@ module _ (text : List ℕ) (at limit : ℕ) (c : Care) (n : ℕ) (piece rest : L
   reads_by r (none h) = absurd (omega arith)
   reads_by r (more d h) =
       let after : digit_at text (at + length piece) ≡ None = ap digit_of (slice_get_front text (at + length piece) ∙ ap (λ t. slice_get t 0) (drop_past text at piece rest e)) ∙ stop in
-      let z : ◌≡◌ {A = ℕ} 0 1 = cc in
-      absurd (omega arith)
+      absurd (grind arith)
   reads_by r (over l) = inr (over_shape c limit n l g.within, (Reading (Number at), refl, tt))
   reads_by r (within h k l) = inl refl
 

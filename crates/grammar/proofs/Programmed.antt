@@ -92,7 +92,7 @@ meets (b ∷ word) rest (c ∷ text) more (suc k) l e =
 
 begins_front : (word text : List ℕ) → begins word text ≡ true → (rest : List ℕ) × (text ≡ word ++ rest)
 begins_front [] text h = (text, refl)
-begins_front (b ∷ word) [] h = let z : ◌≡◌ {A = ℕ} 0 1 = cc in absurd (omega arith)
+begins_front (b ∷ word) [] h = absurd (grind arith)
 begins_front (b ∷ word) (c ∷ text) h =
     let parts = and_parts (eqb c b) (begins word text) h in
     let (rest, e) = begins_front word text parts.1 in
@@ -252,13 +252,13 @@ order_place text = omega (arith, agrees_from_start tick_order text, agrees_from_
 
 -- the check and the writer refuse no byte
 no_byte : {X : Type 0} (fault gap : Option CheckFault) (needed room : ℕ) (x : X) (k : ℕ) → and_then (unless fault) (λ _. and_then (write_answer gap needed room) (λ _. Ok x)) ≡ Err (Reading (Byte k)) → ⊥
-no_byte (Some f) gap needed room x k e = let z : ◌≡◌ {A = ℕ} 0 1 = cc in omega arith
-no_byte None (Some f) needed room x k e = let z : ◌≡◌ {A = ℕ} 0 1 = cc in omega arith
+no_byte (Some f) gap needed room x k e = grind arith
+no_byte None (Some f) needed room x k e = grind arith
 no_byte {X} None None needed room x k e = by_room (ltb room needed) e
   where
     by_room : (t : Bool) → and_then (cond t (Err (Making (SheetTooShort needed))) (Ok needed)) (λ _. Ok x) ≡ Err (Reading (Byte k)) → ⊥
-    by_room true e = let z : ◌≡◌ {A = ℕ} 0 1 = cc in omega arith
-    by_room false e = let z : ◌≡◌ {A = ℕ} 0 1 = cc in omega arith
+    by_room true e = grind arith
+    by_room false e = grind arith
 
 -- so a byte that is refused on the way to the canonical text is refused by the reader
 read_refused : {S : Type 0} (n : Notation S) (tests : Tests S) (text : List ℕ) (atoms rules room k : ℕ) → canonical_at n.stamp_at n.word n.spelt tests text atoms rules room ≡ Err (Reading (Byte k)) → read_as n text atoms rules ≡ Err (Reading (Byte k))
@@ -288,5 +288,5 @@ program_refuses_there_lem text tick_rows route_rows pair_rows rules room k e =
     (short (ltb 65536 (length text)) _ e)
   where
     short : (t : Bool) (r : Result (List ℕ) Fault) → cond t (Err (Reading (TooMany 0))) r ≡ Err (Reading (Byte k)) → r ≡ Err (Reading (Byte k))
-    short true r h = let z : ◌≡◌ {A = ℕ} 0 1 = cc in absurd (omega arith)
+    short true r h = absurd (grind arith)
     short false r h = h

@@ -28,7 +28,7 @@ Nothing rest = rest ≡ []
 
 front_none : (bytes : List ℕ) → slice_get bytes 0 ≡ None → bytes ≡ []
 front_none [] e = refl
-front_none (b ∷ bytes) e = let z : ◌≡◌ {A = ℕ} 0 1 = cc in absurd (omega arith)
+front_none (b ∷ bytes) e = absurd (grind arith)
 
 slice_get-take : (text more : List ℕ) (n i : ℕ) → i < n → i < length text → slice_get text i ≡ slice_get (take n text ++ more) i
 slice_get-take [] more n i l k = absurd (omega arith)
@@ -86,7 +86,7 @@ module _ {S : Type 0} where
   then_ends text (Err e) = tt
 
   booked_fault : (r : Result (Meaning S × ℕ) Fault) (e : Fault) → booked r ≡ Err e → r ≡ Err e
-  booked_fault (Ok p) e h = let z : ◌≡◌ {A = ℕ} 0 1 = cc in absurd (omega arith)
+  booked_fault (Ok p) e h = absurd (grind arith)
   booked_fault (Err d) e h = let same : d ≡ e = cc in ap Err same
 
   -- what an answer that takes all of a text has seen
@@ -96,7 +96,7 @@ module _ {S : Type 0} where
       let all : piece ≡ text = sym (b.stands ∙ ap (λ t. piece ++ t) none ∙ append-nil piece) in
       let same : p.0 ≡ m = cc in
       subst (λ k. G kept k text) same (subst (G kept p.0) all g)
-  booked_seen G text m (Err d) e n h = let z : ◌≡◌ {A = ℕ} 0 1 = cc in absurd (omega arith)
+  booked_seen G text m (Err d) e n h = absurd (grind arith)
 
   -- a book, or a fault that is no byte's where only the shape is kept
   abbrev pub BookReads : Care → Result (Meaning S) Fault → Meaning S → Type 0
@@ -108,7 +108,7 @@ module _ {S : Type 0} where
 
   -- such an answer is no byte's refusal
   never_byte : (c : Care) (answer : Result (Meaning S) Fault) (m : Meaning S) (k : ℕ) → BookReads c answer m → answer ≡ Err (Reading (Byte k)) → ⊥
-  never_byte c answer m k (inl e) h = let z : ◌≡◌ {A = ℕ} 0 1 = cc in omega arith
+  never_byte c answer m k (inl e) h = grind arith
   never_byte c answer m k (inr (s, (e, q, b))) h = let same : e ≡ Reading (Byte k) = cc in subst (λ f. AtByte f (λ _. ⊥)) same b
 
 -- the text up to the end of its first piece
