@@ -17,6 +17,7 @@ use Rattle.grammar.proofs.Places.{slice_get_front, drop_past, between_join, betw
 abbrev pub Any : List ℕ → Type 0
 Any rest = Unit {0}
 
+-- what follows from a fact of the place, where the fault is a byte that is not allowed
 pub at_byte_map : (e : Fault) {P Q : ℕ → Type 0} → ((k : ℕ) → P k → Q k) → AtByte e P → AtByte e Q
 at_byte_map (Reading (Byte k)) f h = f k h
 at_byte_map (Reading (NotRising k)) f h = tt
@@ -40,6 +41,7 @@ at_byte_both (Making x) P Q a b = tt
 pub not_at_byte : (e : Fault) (P : ℕ → Type 0) → AtByte e (λ _. ⊥) → AtByte e P
 not_at_byte e P h = at_byte_map e (λ k x. absurd x) h
 
+-- texts that are the same up to a place are the same up to an earlier one
 pub same_below : (text other : List ℕ) (m n : ℕ) → m ≤ n → Same text other n → Same text other m
 same_below text other m n h same i l = same i (omega arith)
 
@@ -48,6 +50,7 @@ abbrev pub Reaches : {X : Type 0} → ℕ → Result (X × ℕ) Fault → Type 0
 Reaches n (Ok p) = n ≤ p.1
 Reaches n (Err e) = AtByte e (λ k. n ≤ k)
 
+-- what has seen a piece, or the beginning of one, has not gone back
 pub seen_reaches : {X : Type 0} (G : Care → X → List ℕ → Type 0) (r : Result (X × ℕ) Fault) (text : List ℕ) (at : ℕ) → Seen G r text at → Reaches at r
 seen_reaches G (Ok p) text at (piece, b, g) = omega (arith, b.place)
 seen_reaches G (Err e) text at h = at_byte_map e (λ k s. omega (arith, s.3.place)) h
@@ -62,6 +65,7 @@ module _ {X Y : Type 0} (text other : List ℕ) where
   shared_then (Ok p) s f g h k n = shared_on p (f p) s g h (k p) (n p)
   shared_then (Err e) s f g h k n = at_byte_map e (λ i a same. ap (λ b. and_then b g) (a same)) h
 
+-- a piece that is read, and then one that is read from its end on, are read together
 pub reads_then : {X Y : Type 0} (c : Care) (r : Result (X × ℕ) Fault) (f : X × ℕ → Result (Y × ℕ) Fault) (x : X) (n : ℕ) (y : Y) (m : ℕ) → Reads c r x n → Reads c (f (x, n)) y m → Reads c (and_then r f) y m
 reads_then c r f x n y m (inl e) h = subst (λ s. Reads c (and_then s f) y m) (sym e) h
 reads_then c r f x n y m (inr (s, (e, q, b))) h = inr (s, (e, ap (λ a. and_then a f) q, b))
@@ -185,6 +189,7 @@ module _ {X : Type 0} (e : Fault) (other-fault : AtByte e (λ _. ⊥)) (P : List
   reads_if false kept x piece rest text at k g s d = absurd (grind arith)
   reads_if false plain x piece rest text at k g s d = absurd (grind arith)
 
+  -- a reader behind a test agrees with the pieces that keep the test
   pub agrees_if : (b : Bool) → Agrees (go b) (Passed b) Stop
   agrees_if b =
       record {
@@ -225,9 +230,11 @@ module _ (byte : ℕ) where
             subst (λ r. Seen Byted r text at) (sym answer) ([], byte ∷ [], tt, between_none text at, refl)
       ]
 
+  -- the byte at a place from which a text goes on with it
   pub front_byte : (text : List ℕ) (at : ℕ) (rest : List ℕ) → drop at text ≡ byte ∷ rest → slice_get text at ≡ Some byte
   front_byte text at rest d = slice_get_front text at ∙ ap (λ t. slice_get t 0) d
 
+  -- a byte that stands at the place is passed
   pub pass_byte : (text : List ℕ) (at : ℕ) → slice_get text at ≡ Some byte → pass_at byte text at ≡ Ok (at + 1)
   pass_byte text at e = ap (pass_if byte at) e ∙ ap (λ t. cond t (Ok (at + 1)) (wrong_at at)) (eq-eqb byte byte refl)
 

@@ -153,6 +153,7 @@ Aisling c t text = Bracketed unlimited add over falling too_high not_rising c (0
 abbrev Routed : State → Care → Route → List ℕ → Type 0
 Routed t c r piece = (r ≡ route t) × (piece ≡ [])
 
+-- reading a route is reading the rising list of its aisles
 pub route_agrees : Agrees route_at RouteSpelt Any
 route_agrees =
     agrees_same _ route_at RouteSpelt Any route_same

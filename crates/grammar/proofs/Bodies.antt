@@ -129,6 +129,7 @@ module _ (site : Site) (before : ℕ) where
       let left : length (add s v) + length vs ≤ 6 = omega (arith, length_push s v) in
       (lt-leb 6 (length s) room, lt-leb site.atoms v h.0, passes (add s v) vs left h.1)
 
+  -- reading a rule's list is reading six declared atoms at most
   pub body_agrees : Agrees (λ text at. body_at text site before at) (λ c ns text. Body c site.atoms ns text) Any
   body_agrees =
       agrees_same whole _ _ Any body_same

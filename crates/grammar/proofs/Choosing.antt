@@ -55,6 +55,7 @@ module _ {X : Type 0} (byte : ℕ) (P Q : List ℕ → ℕ → Result (X × ℕ)
     shaped_choice c x piece (inl g) = inl (a.shaped c x piece g)
     shaped_choice c x piece (inr h) = inr (b.shaped c x piece h)
 
+    -- the choice by a byte agrees with the pieces of both, where the byte tells them apart
     pub agrees_choice : Agrees chosen Either Stop
     agrees_choice =
         record {

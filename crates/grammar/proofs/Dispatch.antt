@@ -203,16 +203,19 @@ table_same k k' N N' A A' R R' V V' E E' p q s t u w = cc
 opening_step : (b : ℕ) (word text : List ℕ) (at : ℕ) → begins (40 ∷ b ∷ word) (drop at text) ≡ (is_byte 40 (slice_get text at) && (is_byte b (slice_get text (at + 1)) && begins word (drop (at + 1 + 1) text)))
 opening_step b word text at = begins_step 40 (b ∷ word) text at ∙ ap (λ u. is_byte 40 (slice_get text at) && u) (begins_step b word text (at + 1))
 
--- the openings after the bracket
+-- the opening of an atom after its bracket
 abbrev pub atom_word : List ℕ
 atom_word = codes "atom "
 
+-- the opening of a rule after its bracket
 abbrev pub rule_word : List ℕ
 rule_word = codes "rule "
 
+-- the opening of a vacant number after its bracket
 abbrev pub void_word : List ℕ
 void_word = codes "void "
 
+-- the end form after its bracket, up to its line end
 abbrev pub end_word : List ℕ
 end_word = codes "end)"
 
@@ -278,16 +281,19 @@ module _ (S : Type 0) where
         (λ next. Ok (atom_line (record { stamp = s.0; reading = k.0 }), next)))))))
 
 module _ {S : Type 0} (stamp_at : List ℕ → ℕ → Result (S × ℕ) Fault) (word : List ℕ) (room : Counts) (atoms rules : ℕ) where
-  -- the forms after their bracket, which stands at `at`
+  -- an atom, from the byte after its bracket, which stands at `at`
   abbrev pub after_atom : ℕ → List ℕ → ℕ → Result (Line S × ℕ) Fault
   after_atom at text m = and_then (pass_word atom_word text m) (atom_rest S room atoms rules stamp_at at text)
 
+  -- a rule, from the byte after its bracket
   abbrev pub after_rule : ℕ → List ℕ → ℕ → Result (Line S × ℕ) Fault
   after_rule at text m = and_then (pass_word rule_word text m) (rule_rest S room atoms rules at text)
 
+  -- a vacant number, from the byte after its bracket
   abbrev pub after_void : ℕ → List ℕ → ℕ → Result (Line S × ℕ) Fault
   after_void at text m = and_then (pass_word void_word text m) (void_rest S room atoms rules at text)
 
+  -- the end form, from the byte after its bracket
   abbrev pub after_end : List ℕ → ℕ → Result (Line S × ℕ) Fault
   after_end = end_rest S
 

@@ -17,10 +17,11 @@ pub followed_unique : {A B : List ℕ → Type 0} (front back text : List ℕ) �
 followed_unique front back text a b h =
     h.whole ∙ ap (λ t. t ++ h.back) (a h.front h.first) ∙ ap (λ t. front ++ t) (b h.back h.second)
 
--- each piece changed, or the second alone
+-- each piece changed
 pub followed_map : (A B C D : List ℕ → Type 0) (text : List ℕ) → ((t : List ℕ) → A t → C t) → ((t : List ℕ) → B t → D t) → Followed A B text → Followed C D text
 followed_map A B C D text f g h = record { front = h.front; back = h.back; whole = h.whole; first = f h.front h.first; second = g h.back h.second }
 
+-- the second piece alone changed
 pub under : (A B C : List ℕ → Type 0) (text : List ℕ) → ((t : List ℕ) → B t → C t) → Followed A B text → Followed A C text
 under A B C text f h = followed_map A B A C text (λ t a. a) f h
 
@@ -36,6 +37,7 @@ regroup A B C text f =
       second = g.second;
     }
 
+-- and bracketed back
 pub ungroup : (A B C : List ℕ → Type 0) (text : List ℕ) → Followed (Followed A B) C text → Followed A (Followed B C) text
 ungroup A B C text f =
     let g = f.first in
@@ -51,6 +53,7 @@ ungroup A B C text f =
 pub ended : (A : List ℕ → Type 0) (P : Type 0) (text : List ℕ) → Followed A (λ p. P × (p ≡ [])) text → A text
 ended A P text f = subst A (sym (f.whole ∙ ap (λ t. f.front ++ t) f.second.1 ∙ append-nil f.front)) f.first
 
+-- and a piece has nothing more after it
 pub unended : (A : List ℕ → Type 0) (P : Type 0) (text : List ℕ) → P → A text → Followed A (λ p. P × (p ≡ [])) text
 unended A P text x a = record { front = text; back = []; whole = sym (append-nil text); first = a; second = (x, refl) }
 
@@ -59,6 +62,7 @@ pub word_to : (b : ℕ) (word : List ℕ) (A : List ℕ → Type 0) (piece : Lis
 word_to b word A piece f =
     record { front = b ∷ word; back = f.second.back; whole = f.whole ∙ ap (λ t. t ++ f.back) f.first ∙ ap (λ t. b ∷ t) (f.second.whole ∙ ap (λ t. t ++ f.second.back) f.second.first); first = refl; second = f.second.second }
 
+-- and a word is its first byte and then the rest
 pub word_from : (b : ℕ) (word : List ℕ) (A : List ℕ → Type 0) (piece : List ℕ) → Followed (Exactly (b ∷ word)) A piece → Followed (Exactly (b ∷ [])) (Followed (Exactly word) A) piece
 word_from b word A piece f =
     record { front = b ∷ []; back = word ++ f.back; whole = f.whole ∙ ap (λ t. t ++ f.back) f.first; first = refl; second = record { front = word; back = f.back; whole = refl; first = refl; second = f.second } }

@@ -71,6 +71,7 @@ module _ {Y : Type 0} (expected : ℕ) (K : List ℕ → ℕ → Result (Y × �
       by_test false = refl
   next_same text at (Err e) = refl
 
+  -- a reader after a line's number agrees with its pieces after that number
   pub numbered_then : Agrees (λ text at. and_then (next_number text expected at) (K text)) (λ c y. Followed (Numbered c expected) (G c y)) Stop
   numbered_then =
       agrees_same _ _ _ Stop (λ text at. next_same text at (number_at text at largest))
@@ -159,6 +160,7 @@ module _ (site : Site) where
       let head : Via Headed Positives c r f.back = record { value = r.head; parts = onto g (onto k positives) } in
       onto f head
 
+  -- reading a rule is reading its head and its two lists, each after a space
   pub rule_agrees : Agrees (λ text at. rule_at text site at) (λ c r text. Parts c site.atoms r text) Any
   unfolding rule_at
   rule_agrees =

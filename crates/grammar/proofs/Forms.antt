@@ -58,6 +58,7 @@ module _ (S : Type 0) (room : Counts) (atoms rules : ℕ) where
   said_stops : (c : Care) (y : Line S) (piece rest : List ℕ) → RuleSaid c y piece → NoDigit (piece ++ rest)
   said_stops c y piece rest v = ap digit_of (first_of _ _ _ piece rest (ungroup _ _ _ piece v.parts))
 
+  -- a rule agrees, from its number on
   pub rule_rest_agrees : (at : ℕ) → Agrees (rule_rest S room atoms rules at) RuleRest Any
   rule_rest_agrees at =
       agrees_as (rule_rest S room atoms rules at) _ RuleRest Any rule_to rule_from
@@ -79,6 +80,7 @@ module _ (S : Type 0) (room : Counts) (atoms rules : ℕ) where
   void_from c y text (e, k, f) =
       (kept_map c (lt-leb room.rules rules) k, onto f (unended (Exactly closing) (y ≡ rule_line None) f.back e f.second))
 
+  -- a vacant number agrees, from its number on
   pub void_rest_agrees : (at : ℕ) → Agrees (void_rest S room atoms rules at) VoidRest Any
   void_rest_agrees at =
       agrees_as (void_rest S room atoms rules at) _ VoidRest Any void_to void_from
@@ -90,6 +92,7 @@ module _ (S : Type 0) (room : Counts) (atoms rules : ℕ) where
   abbrev pub EndRest : Care → Line S → List ℕ → Type 0
   EndRest c y text = (y ≡ end_line) × Exactly (codes "end)\n") text
 
+  -- the end form agrees, from the byte after its bracket
   pub end_rest_agrees : Agrees (end_rest S) EndRest Any
   end_rest_agrees =
       agrees_as (end_rest S) _ EndRest Any to from
@@ -106,6 +109,7 @@ module _ (S : Type 0) (room : Counts) (atoms rules : ℕ) where
 
   -- an atom, from its number on
   module _ (stamp_at : List ℕ → ℕ → Result (S × ℕ) Fault) (spells : Care → S → List ℕ → Type 0) (stamps : Agrees stamp_at spells NoDigit) where
+    -- what the grammar has of an atom from its number on, where there is room for it
     abbrev pub AtomRest : Care → Line S → List ℕ → Type 0
     AtomRest c y text = (a : Atom S) × (y ≡ atom_line a) × Kept c (atoms < room.atoms) × Followed (Numbered c atoms) (Followed (Exactly (kind_text a.reading)) (Followed (spells c a.stamp) (Exactly closing))) text
 
@@ -159,6 +163,7 @@ module _ (S : Type 0) (room : Counts) (atoms rules : ℕ) where
         let kind : Via Kinded Stamped c y g.back = record { value = a.reading; parts = onto h stamp } in
         (kept_map c (lt-leb room.atoms atoms) k, onto f (onto g kind))
 
+    -- an atom agrees, from its number on
     pub atom_rest_agrees : (at : ℕ) → Agrees (atom_rest S room atoms rules stamp_at at) AtomRest Any
     atom_rest_agrees at =
         agrees_as (atom_rest S room atoms rules stamp_at at) _ AtomRest Any atom_to atom_from

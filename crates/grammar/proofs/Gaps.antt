@@ -57,6 +57,7 @@ is_there (x ∷ xs) zero l = refl
 is_there (x ∷ xs) (suc a) l = is_there xs a (omega arith)
 
 module _ {S : Type 0} (m : Meaning S) where
+  -- the atoms of the book
   abbrev pub count : ℕ
   count = length m.atoms
 

@@ -27,6 +27,7 @@ use Rattle.grammar.proofs.Whole.{book_seen, book_reads, book_viable, book_none}
 use Rattle.grammar.proofs.Keeping.{plain_to_kept, to_shape, tick_eased, pair_eased, route_eased, book_eased}
 use Rattle.grammar.specs.Lawful.{Lawful}
 
+-- ticks keep what is asked of a kind
 pub lawful_ticks : Lawful ticks
 lawful_ticks =
     record {
@@ -37,6 +38,7 @@ lawful_ticks =
       plainly = tick_eased plain_to_kept;
     }
 
+-- and pairs of ticks
 pub lawful_pairs : Lawful pairs
 lawful_pairs =
     record {
@@ -47,6 +49,7 @@ lawful_pairs =
       plainly = pair_eased plain_to_kept;
     }
 
+-- and routes
 pub lawful_routes : Lawful routes
 lawful_routes =
     record {
@@ -61,6 +64,7 @@ module _ {S : Type 0} (n : Notation S) (l : Lawful n) where
   forms : (room : Counts) (stage : Stage) → Going stage → (atoms rules : ℕ) → Agrees (λ text at. form_at n.stamp_at n.word text room (record { stage = stage; next = at; atoms = atoms; rules = rules })) (FormAt n.word n.spells room stage atoms rules) Any
   forms room stage g atoms rules = forms_agree n.stamp_at n.word n.spells room l.agrees atoms rules stage g
 
+  -- a text is read as a book exactly where it spells it and the tables take it
   pub reading_is_the_grammar_lem : ReadingIsTheGrammar n
   reading_is_the_grammar_lem text atoms rules m =
       let room = room_of atoms rules in
@@ -70,11 +74,13 @@ module _ {S : Type 0} (n : Notation S) (l : Lawful n) where
         reads = λ h t. elim (book_reads n.stamp_at n.word n.spells room (forms room) kept text m h (t.few_atoms, t.few_rules)) [ inl e ↦ e | inr z ↦ absurd z.0 ];
       }
 
+  -- a book that is written is read back
   pub written_is_read_back_lem : WrittenIsReadBack n
   written_is_read_back_lem atoms rules m gapless held takes =
       let spelt = book_canonical n.word n.spells n.spelt n.Fits l.canonical m gapless held in
       (reading_is_the_grammar_lem (written_of n m) atoms rules m).reads (book_eased plain_to_kept n.word n.spells l.plainly m (written_of n m) spelt) takes
 
+  -- the book of an accepted text can be written, and comes back
   pub accepted_comes_back_lem : AcceptedComesBack n
   accepted_comes_back_lem text atoms rules m e =
       let laws = reading_is_the_grammar_lem text atoms rules m in
@@ -89,6 +95,7 @@ module _ {S : Type 0} (n : Notation S) (l : Lawful n) where
         same = written_is_read_back_lem atoms rules m gapless held takes;
       }
 
+  -- a text without leading zeros is read as its book, and is what is written of it
   pub canonical_is_unchanged_lem : CanonicalIsUnchanged n
   canonical_is_unchanged_lem text m h =
       record {
@@ -96,6 +103,7 @@ module _ {S : Type 0} (n : Notation S) (l : Lawful n) where
         written = sym (book_unique n.word n.spells n.spelt n.Fits l.unique m text h);
       }
 
+  -- each degree of care keeps what the lower one keeps
   pub degrees_nest : DegreesNest n
   degrees_nest m text =
       record {
@@ -109,6 +117,7 @@ module _ {S : Type 0} (n : Notation S) (l : Lawful n) where
   written_answer m (Ok u) (Err f) answer e = absurd (grind arith)
   written_answer m (Err f) written answer e = absurd (grind arith)
 
+  -- what is answered to a text is answered to that answer
   pub answer_is_its_own : AnswerIsItsOwn n
   answer_is_its_own tests text answer atoms rules room e = by_book (read_as n text atoms rules) refl e
     where
@@ -119,6 +128,7 @@ module _ {S : Type 0} (n : Notation S) (l : Lawful n) where
           ap (λ r. and_then r (λ m. checked_text n.word n.spelt tests m room)) again ∙ h
       by_book (Err f) read h = absurd (grind arith)
 
+  -- a byte is refused where no text of the shape goes on with it
   pub refused_at_the_first_byte_lem : RefusedAtTheFirstByte n
   refused_at_the_first_byte_lem text atoms rules k e =
       let room = room_of atoms rules in

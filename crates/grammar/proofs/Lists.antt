@@ -213,6 +213,7 @@ module _ {A : Type 0} (limit : ℕ) (add : A → ℕ → A) (first second : A �
       abbrev pub listed : ℕ → A → List ℕ → ℕ → Result (A × ℕ) Fault
       listed n s text at = and_then (pass_at 40 text at) (λ m. cond (is_byte 41 (slice_get text m)) (and_then (pass_at 41 text m) (λ k. Ok (s, k))) (run (suc n) s text m))
 
+      -- reading a whole list agrees with the lists of which no number is refused
       pub list_agrees : (n : ℕ) (s : A) → Enough (suc n) s → Agrees (listed n s) (λ c t. Bracketed c s t) Any
       list_agrees n s h =
           agrees_as _ _ _ Any (λ c t text. bracketed_to c s t text) (λ c t text. bracketed_from c s t text)

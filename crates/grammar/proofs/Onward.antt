@@ -30,9 +30,11 @@ agrees_map f P G a =
     (agrees_then P (λ at x text next. Ok (f x, next)) G (λ x c y piece. (y ≡ f x) × (piece ≡ [])) Any Any a (λ at x. agrees_done (f x) Any) (λ c x y piece rest h s. tt))
 
 module _ {S : Type 0} where
+  -- a book with one more atom in front
   abbrev pub with_atom : Atom S → Meaning S → Meaning S
   with_atom x m = record { atoms = x ∷ m.atoms; rules = m.rules }
 
+  -- a book with one more rule number in front
   abbrev pub with_rule : Option Rule → Meaning S → Meaning S
   with_rule o m = record { atoms = m.atoms; rules = o ∷ m.rules }
 
@@ -102,6 +104,7 @@ module _ {S : Type 0} (word : List ℕ) (spells : Care → S → List ℕ → Ty
     one_rest Rules end_line a r c m front back piece e f h = ended a r c Rules m front back piece e f h.0 h.1
     one_rest End line a r c m front back piece e f h = absurd f
 
+  -- n forms, or fewer, are what remains of a text
   pub lines_rest : (n : ℕ) (stage : Stage) (a r : ℕ) (c : Care) (m : Meaning S) (piece : List ℕ) → Lines n stage a r c m piece → rest stage a r c m piece
   lines_rest zero stage a r shape m piece h = h.1
   lines_rest zero stage a r kept m piece h = absurd h.0

@@ -278,6 +278,7 @@ by_order text T R H k tick route then e = by_tests (begins tick_order text) (beg
     by_tests false false true bt br bh e = refused_then text k bh (then e)
     by_tests false false false bt br bh e = let same : order_refused text ≡ k = cc in refused_order text k bt br bh (sym same ∙ order_place text)
 
+-- the place at which the program refuses a byte is the first at which no text goes on
 pub program_refuses_there_lem : ProgramRefusesThere
 unfolding program_at
 program_refuses_there_lem text tick_rows route_rows pair_rows rules room k e =

@@ -40,6 +40,7 @@ module _ {S : Type 0} (word : List ℕ) (spells : Care → S → List ℕ → Ty
   LateRest a r c [] os = RulesRest a r c os
   LateRest a r c (x ∷ xs) os = λ _. ⊥
 
+  -- what remains from a stage on, after so many atoms and rules
   abbrev pub Rest : Stage → ℕ → ℕ → Care → Meaning S → List ℕ → Type 0
   Rest Start a r c m = Followed (OrderForm word) (AtomsRest a r c m.atoms m.rules)
   Rest Atoms a r c m = AtomsRest a r c m.atoms m.rules
@@ -118,6 +119,7 @@ module _ {S : Type 0} (word : List ℕ) (spells : Care → S → List ℕ → Ty
       subst (λ n. Followed (OrderForm word) (Followed (AtomForms spells c 0 m.atoms) (Late 0 c m.rules n)) text) count
       (followed_map _ _ _ _ text (λ t f. f) (atoms_spelt m.atoms m.rules 0 0 c) h)
 
+  -- and a text that spells a book, where there is room for it, is what remains from the start on
   pub spells_rest : (c : Care) (m : Meaning S) (text : List ℕ) → Kept c ((length m.atoms ≤ room.atoms) × (length m.rules ≤ room.rules)) → Spells word spells c m text → Rest Start 0 0 c m text
   spells_rest c m text k h =
       let count : length m.atoms ≡ 0 + length m.atoms = omega arith in
@@ -126,6 +128,7 @@ module _ {S : Type 0} (word : List ℕ) (spells : Care → S → List ℕ → Ty
       followed_map _ _ _ _ text (λ t f. f) (λ t. atoms_rest m.atoms m.rules 0 0 c t one two)
       (subst (λ n. Followed (OrderForm word) (Followed (AtomForms spells c 0 m.atoms) (Late 0 c m.rules n)) text) count h)
 
+  -- there is room for what remains from the start on
   pub rest_roomy : (m : Meaning S) (text : List ℕ) → Rest Start 0 0 kept m text → (length m.atoms ≤ room.atoms) × (length m.rules ≤ room.rules)
   rest_roomy m text h =
       let l = atoms_roomy m.atoms m.rules 0 0 h.back h.second (omega arith) (omega arith) in

@@ -164,6 +164,7 @@ route_aisles mask l =
 pub aisles_fit : (ks : List ℕ) → RisingFrom 0 ks → AllByRecursion (λ k. k ≤ 63) ks → with_aisles 0 ks < 2 ^ 64
 aisles_fit ks r b = marked_below (rising_marked ks r b)
 
+-- the text that is written of the mask of rising aisles is that of their list
 pub route_text_lem : (ks : List ℕ) → RisingFrom 0 ks → AllByRecursion (λ k. k ≤ 63) ks → route_text (record { aisles = with_aisles 0 ks }) ≡ list_text ks
 route_text_lem ks r b =
     let h = rising_marked ks r b in
@@ -173,6 +174,7 @@ route_text_lem ks r b =
 route_text_of : (r : Route) (ks : List ℕ) → r.aisles ≡ with_aisles 0 ks → RisingFrom 0 ks → AllByRecursion (λ k. k ≤ 63) ks → route_text r ≡ list_text ks
 route_text_of r ks e rising b = ap (λ a. opening ++ up_to (aisle_text a) 64 ++ shutting) e ∙ route_text_lem ks rising b
 
+-- the text that is written of a route spells it, with no leading zeros
 pub route_canonical : (r : Route) → r.aisles < 2 ^ 64 → RouteSpelt plain r (route_text r)
 route_canonical r l =
     let (ks, rising, b, means) = route_aisles r.aisles l in
@@ -183,6 +185,7 @@ route_canonical r l =
       means = means;
     }
 
+-- and no other text does
 pub route_unique : (r : Route) (text : List ℕ) → RouteSpelt plain r text → text ≡ route_text r
 route_unique r text h =
     list_unique 63 h.aisles text h.listed

@@ -18,6 +18,7 @@ Ticked c v piece = Numeral c largest v piece
 abbrev IsTick : ℕ → Care → Tick → List ℕ → Type 0
 IsTick v c t piece = (t ≡ record { 0 = v }) × (piece ≡ [])
 
+-- reading a tick is reading a number
 pub tick_agrees : Agrees tick_at TickSpelt NoDigit
 tick_agrees =
     agrees_as tick_at (Via Ticked IsTick) TickSpelt NoDigit to from
@@ -43,6 +44,7 @@ second_agrees a =
 abbrev First : Care → Then Tick Tick → List ℕ → Type 0
 First = Via TickSpelt (λ a c p. Followed (Exactly (32 ∷ [])) (Second a c p))
 
+-- reading a pair is reading two ticks in brackets
 pub pair_agrees : Agrees pair_at PairSpelt Any
 pair_agrees =
     agrees_as pair_at (λ c p. Followed (Exactly (40 ∷ [])) (First c p)) PairSpelt Any to from

@@ -74,6 +74,7 @@ abbrev Inside : {X : Type 0} → List ℕ → ℕ → Result (X × ℕ) Fault �
 Inside text at (Ok p) = (at < p.1) × (p.1 ≤ length text)
 Inside text at (Err e) = Unit {0}
 
+-- what stands between two places of a text ends within it
 pub between_within : (text : List ℕ) (at next : ℕ) (piece : List ℕ) → Between text at next piece → at ≤ length text → next ≤ length text
 between_within text at next piece b l =
     omega (arith, ap length b.stands, length-append piece (drop next text), length-drop at text, length-drop next text, b.place)
