@@ -210,6 +210,11 @@ pub then_then : {X Y Z : Type 0} (r : Result X Fault) (f : X → Result Y Fault)
 then_then (Ok x) f g = refl
 then_then (Err e) f g = refl
 
+-- what goes on the same way from each answer
+pub then_same : {X Y : Type 0} (r : Result X Fault) (f g : X → Result Y Fault) → ((x : X) → f x ≡ g x) → and_then r f ≡ and_then r g
+then_same (Ok x) f g h = h x
+then_same (Err e) f g h = refl
+
 -- the place after, with nothing to say
 abbrev unsaid : Result ℕ Fault → Result (Unit {0} × ℕ) Fault
 unsaid r = and_then r (λ n. Ok (tt, n))

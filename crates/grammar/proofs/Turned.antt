@@ -18,15 +18,11 @@ use Rattle.text.specs.declared.reader.Stage.{Stage}
 use Rattle.text.specs.declared.reader.Stage.TheVariants.{Start, Atoms, Rules, End}
 use Rattle.grammar.specs.Pieces.{Care, kept, Exactly, Followed}
 use Rattle.grammar.specs.Agreement.{Between, Seen, Agrees}
-use Rattle.grammar.proofs.Agreeing.{then_then}
+use Rattle.grammar.proofs.Agreeing.{then_then, then_same}
 use Rattle.grammar.proofs.Lines.{FormAt}
 use Rattle.grammar.proofs.Onward.{with_atom, with_rule, onward, lines}
 use Rattle.grammar.proofs.Rests.{Going, bare}
 use Rattle.grammar.proofs.Turning.{tries_first, tries_stay}
-
-then_same : {X Y : Type 0} (r : Result X Fault) (f g : X → Result Y Fault) → ((x : X) → f x ≡ g x) → and_then r f ≡ and_then r g
-then_same (Ok x) f g h = h x
-then_same (Err e) f g h = refl
 
 tries_none : {X : Type 0} (f : X → Result X Fault) (s : X) → tries f s zero ≡ Ok s
 unfolding turns
