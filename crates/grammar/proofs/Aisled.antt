@@ -17,7 +17,7 @@ use Rattle.grammar.specs.Agreement.{Agrees}
 use Rattle.grammar.proofs.Agreeing.{Any, Via, then_then, agrees_same, agrees_as, agrees_then, agrees_done, then_same}
 use Rattle.grammar.proofs.Following.{ended, unended}
 use Rattle.grammar.proofs.Keeping.{kept_map, kept_both, list_under, as_it_is, list_within}
-use Rattle.grammar.proofs.Lists.{Walk, Ends, adds, Passes, Bracketed, listed, list_same, list_agrees}
+use Rattle.grammar.proofs.Lists.{Walk, Ends, adds, Passes, Bracketed, listed, list_same, list_agrees, turned}
 use Rattle.grammar.proofs.Numbers.{number_limited, unlimited}
 use Rattle.std.proofs.ByRecursion.{All-weaker}
 
@@ -62,17 +62,20 @@ module _ (text : List ℕ) where
   abbrev shown : Aisles → State × ℕ
   shown a = ((a.aisles, a.least), a.next)
 
+  -- the second test, and what follows
+  abbrev risen : State → ℕ → ℕ × ℕ → Result Aisles Fault
+  risen s at p = cond (ltb p.0 s.1) (Err (walk.second_fault at s p.0)) (and_then (onward_at text p.1) (λ q. Ok (state (walk.add s p.0) q.0 q.1)))
+
   -- a turn is a number, the two tests, and what follows it
-  one_step : (s : State) (at : ℕ) → one_aisle text (state s true at) ≡ and_then (number_at text at unlimited) (λ p. cond (ltb 63 p.0) (Err (walk.first_fault at s p.0)) (cond (ltb p.0 s.1) (Err (walk.second_fault at s p.0)) (and_then (onward_at text p.1) (λ q. Ok (state (walk.add s p.0) q.0 q.1)))))
-  one_step s at = ap (λ r. and_then r (λ p. cond (ltb p.0 s.1) (Err (walk.second_fault at s p.0)) (and_then (onward_at text p.1) (λ q. Ok (state (walk.add s p.0) q.0 q.1))))) (number_limited text at 63) ∙ by_number (number_at text at unlimited)
+  one_step : (s : State) (at : ℕ) → one_aisle text (state s true at) ≡ and_then (number_at text at unlimited) (turned walk state text s at)
+  one_step s at =
+      ap (λ r. and_then r (risen s at)) (number_limited text at 63)
+      ∙ then_then (number_at text at unlimited) (λ q. cond (ltb 63 q.0) (Err (Reading (Number at))) (Ok q)) (risen s at)
+      ∙ then_same (number_at text at unlimited) _ _ (λ p. by_test p (ltb 63 p.0))
     where
-      by_test : (p : ℕ × ℕ) (high : Bool) → and_then (cond high (Err (Reading (Number at))) (Ok p)) (λ p. cond (ltb p.0 s.1) (Err (walk.second_fault at s p.0)) (and_then (onward_at text p.1) (λ q. Ok (state (walk.add s p.0) q.0 q.1)))) ≡ cond high (Err (walk.first_fault at s p.0)) (cond (ltb p.0 s.1) (Err (walk.second_fault at s p.0)) (and_then (onward_at text p.1) (λ q. Ok (state (walk.add s p.0) q.0 q.1))))
+      by_test : (p : ℕ × ℕ) (high : Bool) → and_then (cond high (Err (Reading (Number at))) (Ok p)) (risen s at) ≡ cond high (Err (Reading (Number at))) (risen s at p)
       by_test p true = refl
       by_test p false = refl
-
-      by_number : (r : Result (ℕ × ℕ) Fault) → and_then (and_then r (λ q. cond (ltb 63 q.0) (Err (Reading (Number at))) (Ok q))) (λ p. cond (ltb p.0 s.1) (Err (walk.second_fault at s p.0)) (and_then (onward_at text p.1) (λ q. Ok (state (walk.add s p.0) q.0 q.1)))) ≡ and_then r (λ p. cond (ltb 63 p.0) (Err (walk.first_fault at s p.0)) (cond (ltb p.0 s.1) (Err (walk.second_fault at s p.0)) (and_then (onward_at text p.1) (λ q. Ok (state (walk.add s p.0) q.0 q.1)))))
-      by_number (Ok p) = by_test p (ltb 63 p.0)
-      by_number (Err e) = refl
 
 abbrev route : State → Route
 route s = record { aisles = s.0 }

@@ -14,9 +14,9 @@ use Rattle.text.specs.declared.site.Site.{Site}
 use Rattle.grammar.specs.Pieces.{Care, largest}
 use Rattle.grammar.specs.Grammar.{Body}
 use Rattle.grammar.specs.Agreement.{Agrees}
-use Rattle.grammar.proofs.Agreeing.{Any, then_then, agrees_same, agrees_as}
+use Rattle.grammar.proofs.Agreeing.{Any, then_then, agrees_same, agrees_as, then_same}
 use Rattle.grammar.proofs.Keeping.{kept_map, kept_both}
-use Rattle.grammar.proofs.Lists.{Walk, Ends, adds, Passes, Bracketed, listed, list_same, list_agrees}
+use Rattle.grammar.proofs.Lists.{Walk, Ends, adds, Passes, Bracketed, listed, list_same, list_agrees, turned}
 
 module _ (site : Site) (before : ℕ) where
   -- the atoms so far; a seventh is refused, and one that is not declared
@@ -50,17 +50,15 @@ module _ (site : Site) (before : ℕ) where
     state s more at = record { atoms = s; more = more; next = at }
 
     -- a turn is a number, the two tests, and what follows it
-    one_step : (s : List ℕ) (at : ℕ) → one_literal text site before (state s true at) ≡ and_then (number_at text at largest) (λ p. cond (leb 6 (length s)) (Err (walk.first_fault at s p.0)) (cond (leb site.atoms p.0) (Err (walk.second_fault at s p.0)) (and_then (onward_at text p.1) (λ q. Ok (state (walk.add s p.0) q.0 q.1)))))
-    one_step s at = then_then (number_at text at largest) _ (λ p. Ok (extended (state s true at) p)) ∙ by_number (number_at text at largest)
+    one_step : (s : List ℕ) (at : ℕ) → one_literal text site before (state s true at) ≡ and_then (number_at text at largest) (turned walk state text s at)
+    one_step s at =
+        then_then (number_at text at largest) _ (λ p. Ok (extended (state s true at) p))
+        ∙ then_same (number_at text at largest) _ _ (λ p. by_tests p.0 p.1 (leb 6 (length s)) (leb site.atoms p.0))
       where
         by_tests : (v k : ℕ) (a b : Bool) → and_then (cond a (Err (walk.first_fault at s v)) (cond b (Err (walk.second_fault at s v)) (and_then (onward_at text k) (λ q. Ok (v, q.0, q.1))))) (λ p. Ok (extended (state s true at) p)) ≡ cond a (Err (walk.first_fault at s v)) (cond b (Err (walk.second_fault at s v)) (and_then (onward_at text k) (λ q. Ok (state (walk.add s v) q.0 q.1))))
         by_tests v k true b = refl
         by_tests v k false true = refl
         by_tests v k false false = then_then (onward_at text k) (λ q. Ok (v, q.0, q.1)) (λ p. Ok (extended (state s true at) p))
-
-        by_number : (r : Result (ℕ × ℕ) Fault) → and_then r (λ p. and_then (cond (leb 6 (length s)) (Err (walk.first_fault at s p.0)) (cond (leb site.atoms p.0) (Err (walk.second_fault at s p.0)) (and_then (onward_at text p.1) (λ q. Ok (p.0, q.0, q.1))))) (λ p. Ok (extended (state s true at) p))) ≡ and_then r (λ p. cond (leb 6 (length s)) (Err (walk.first_fault at s p.0)) (cond (leb site.atoms p.0) (Err (walk.second_fault at s p.0)) (and_then (onward_at text p.1) (λ q. Ok (state (walk.add s p.0) q.0 q.1)))))
-        by_number (Ok p) = by_tests p.0 p.1 (leb 6 (length s)) (leb site.atoms p.0)
-        by_number (Err e) = refl
 
   body_same : (text : List ℕ) (at : ℕ) → listed walk 6 [] text at ≡ body_at text site before at
   unfolding body_at

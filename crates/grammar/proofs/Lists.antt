@@ -71,9 +71,13 @@ module _ {A : Type 0} (w : Walk A) where
   abbrev pub listed : ℕ → A → List ℕ → ℕ → Result (A × ℕ) Fault
   listed n s text at = and_then (pass_at 40 text at) (λ m. cond (is_byte 41 (slice_get text m)) (and_then (pass_at 41 text m) (λ k. Ok (s, k))) (run (suc n) s text m))
 
+  -- what a turn makes of a number that was read: the two tests, and then what follows it
+  abbrev pub turned : {X : Type 0} → (A → Bool → ℕ → X) → List ℕ → A → ℕ → ℕ × ℕ → Result X Fault
+  turned state text s at p = cond (w.first s p.0) (Err (w.first_fault at s p.0)) (cond (w.second s p.0) (Err (w.second_fault at s p.0)) (and_then (onward_at text p.1) (λ q. Ok (state (w.add s p.0) q.0 q.1))))
+
   -- a reader that goes through a list turn by turn: its state, what is shown of it, and its turn where another number follows
   module _ {X : Type 0} (text : List ℕ) (turn : X → Result X Fault) (state : A → Bool → ℕ → X) (shown : X → A × ℕ) (shows : (s : A) (more : Bool) (at : ℕ) → shown (state s more at) ≡ (s, at)) (stays : (s : A) (at : ℕ) → turn (state s false at) ≡ Ok (state s false at))
-      (steps : (s : A) (at : ℕ) → turn (state s true at) ≡ and_then (number_at text at w.limit) (λ p. cond (w.first s p.0) (Err (w.first_fault at s p.0)) (cond (w.second s p.0) (Err (w.second_fault at s p.0)) (and_then (onward_at text p.1) (λ q. Ok (state (w.add s p.0) q.0 q.1)))))) where
+      (steps : (s : A) (at : ℕ) → turn (state s true at) ≡ and_then (number_at text at w.limit) (turned state text s at)) where
     abbrev finish : Result X Fault → Result (A × ℕ) Fault
     finish r = and_then r (λ x. Ok (shown x))
 
@@ -97,7 +101,7 @@ module _ {A : Type 0} (w : Walk A) where
 
     -- the turn of an answer of the number's reader
     turn_by : (n : ℕ) (s : A) (at : ℕ) (r : Result (ℕ × ℕ) Fault) → ((v m : ℕ) → rest n (w.add s v) true m ≡ run n (w.add s v) text m)
-        → finish (and_then (and_then r (λ p. cond (w.first s p.0) (Err (w.first_fault at s p.0)) (cond (w.second s p.0) (Err (w.second_fault at s p.0)) (and_then (onward_at text p.1) (λ q. Ok (state (w.add s p.0) q.0 q.1)))))) (λ y. tries turn y n))
+        → finish (and_then (and_then r (turned state text s at)) (λ y. tries turn y n))
         ≡ and_then r (λ p. tested (run n (w.add s p.0)) at s p.0 text p.1)
     turn_by n s at (Ok p) h = turn_on n s at p.0 p.1 (w.first s p.0) (w.second s p.0) (h p.0)
     turn_by n s at (Err e) h = refl
