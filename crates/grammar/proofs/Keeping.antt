@@ -5,10 +5,12 @@ use Rattle.books.specs.Meaning.{Rule, Atom, Meaning}
 use Rattle.stamps.specs.declared.route.Route.{Route}
 use Rattle.stamps.specs.declared.then.Then.{Then}
 use Rattle.stamps.specs.declared.tick.Tick.{Tick}
-use Rattle.grammar.specs.Grammar.{Numbered, Declared, Body, RuleForm, AtomForms, RuleForms, Spells}
+use Rattle.grammar.specs.Grammar.{Numbered, Declared, Body, RuleForm, AtomForms, RuleForms}
 use Rattle.grammar.specs.Pieces.{Care, shape, kept, plain, Kept, Plainly, largest, Numeral, Spaced, Listed}
 use Rattle.grammar.specs.Stamps.{TickSpelt, PairSpelt, RouteSpelt}
 use Rattle.grammar.proofs.Following.{under, followed_map}
+use Rattle.grammar.specs.Notations.{Notation}
+use Rattle.grammar.specs.Theorems.{SpeltBy}
 
 -- a rule that follows from one that is kept
 pub kept_map : {P Q : Type 0} (c : Care) → (P → Q) → Kept c P → Kept c Q
@@ -129,8 +131,8 @@ module _ {c d : Care} (e : Eases c d) where
   rules_eased atoms k [] text h = h
   rules_eased atoms k (o ∷ os) text h = followed_map _ _ _ _ text (rule_eased atoms k o) (rules_eased atoms (k + 1) os) h
 
-  module _ {S : Type 0} (word : List ℕ) (spells : Care → S → List ℕ → Type 0) (stamp_eased : (s : S) (text : List ℕ) → spells c s text → spells d s text) where
-    atoms_eased : (i : ℕ) (xs : List (Atom S)) (text : List ℕ) → AtomForms spells c i xs text → AtomForms spells d i xs text
+  module _ {S : Type 0} (n : Notation S) (stamp_eased : (s : S) (text : List ℕ) → n.spells c s text → n.spells d s text) where
+    atoms_eased : (i : ℕ) (xs : List (Atom S)) (text : List ℕ) → AtomForms n.spells c i xs text → AtomForms n.spells d i xs text
     atoms_eased i [] text h = h
     atoms_eased i (a ∷ xs) text h =
         followed_map _ _ _ _ text
@@ -140,7 +142,7 @@ module _ {c d : Care} (e : Eases c d) where
         (atoms_eased (i + 1) xs) h
 
     -- the text of a book, where it is so of the stamps
-    pub book_eased : (m : Meaning S) (text : List ℕ) → Spells word spells c m text → Spells word spells d m text
+    pub book_eased : (m : Meaning S) (text : List ℕ) → SpeltBy n c m text → SpeltBy n d m text
     book_eased m text h =
         under _ _ _ text
         (λ t. followed_map _ _ _ _ t (atoms_eased 0 m.atoms)

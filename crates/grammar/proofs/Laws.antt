@@ -77,8 +77,8 @@ module _ {S : Type 0} (n : Notation S) (l : Lawful n) where
   -- a book that is written is read back
   pub written_is_read_back_lem : WrittenIsReadBack n
   written_is_read_back_lem atoms rules m gapless held takes =
-      let spelt = book_canonical n.word n.spells n.spelt n.Fits l.canonical m gapless held in
-      (reading_is_the_grammar_lem (written_of n m) atoms rules m).reads (book_eased plain_to_kept n.word n.spells l.plainly m (written_of n m) spelt) takes
+      let spelt = book_canonical n l.canonical m gapless held in
+      (reading_is_the_grammar_lem (written_of n m) atoms rules m).reads (book_eased plain_to_kept n l.plainly m (written_of n m) spelt) takes
 
   -- the book of an accepted text can be written, and comes back
   pub accepted_comes_back_lem : AcceptedComesBack n
@@ -86,12 +86,12 @@ module _ {S : Type 0} (n : Notation S) (l : Lawful n) where
       let laws = reading_is_the_grammar_lem text atoms rules m in
       let spelt = laws.spelling e in
       let takes = laws.takes e in
-      let gapless = spelt_gapless n.word n.spells n.spelt n.Fits m text spelt (omega (arith, takes.few_atoms)) (omega (arith, takes.few_rules)) in
-      let held = spelt_held n.word n.spells n.spelt n.Fits l.held m text spelt in
+      let gapless = spelt_gapless n m text spelt (omega (arith, takes.few_atoms)) (omega (arith, takes.few_rules)) in
+      let held = spelt_held n l.held m text spelt in
       record {
         written = gapless;
         held = held;
-        canonical = book_canonical n.word n.spells n.spelt n.Fits l.canonical m gapless held;
+        canonical = book_canonical n l.canonical m gapless held;
         same = written_is_read_back_lem atoms rules m gapless held takes;
       }
 
@@ -99,16 +99,16 @@ module _ {S : Type 0} (n : Notation S) (l : Lawful n) where
   pub canonical_is_unchanged_lem : CanonicalIsUnchanged n
   canonical_is_unchanged_lem text m h =
       record {
-        read = λ atoms rules takes. (reading_is_the_grammar_lem text atoms rules m).reads (book_eased plain_to_kept n.word n.spells l.plainly m text h) takes;
-        written = sym (book_unique n.word n.spells n.spelt n.Fits l.unique m text h);
+        read = λ atoms rules takes. (reading_is_the_grammar_lem text atoms rules m).reads (book_eased plain_to_kept n l.plainly m text h) takes;
+        written = sym (book_unique n l.unique m text h);
       }
 
   -- each degree of care keeps what the lower one keeps
   pub degrees_nest : DegreesNest n
   degrees_nest m text =
       record {
-        plainly = book_eased plain_to_kept n.word n.spells l.plainly m text;
-        shapely = book_eased (to_shape kept) n.word n.spells (λ s t. l.agrees.shaped kept s t) m text;
+        plainly = book_eased plain_to_kept n l.plainly m text;
+        shapely = book_eased (to_shape kept) n (λ s t. l.agrees.shaped kept s t) m text;
       }
 
   -- where a book is checked and written, its text is what is answered
