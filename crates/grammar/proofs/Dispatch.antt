@@ -9,9 +9,10 @@ use Rattle.text.specs.Kinds.{order_opening, atom_opening, rule_opening, void_ope
 use Rattle.text.specs.Rules.{rule_at}
 use Rattle.text.specs.Forms.{Line, atom_line, rule_line, end_line, closing, next_number, if_room, reading_at, order_at, atom_at, rule_form_at, void_at, end_at, refused_at, by_kind, form_at}
 use Rattle.text.specs.declared.kind.Kind.{Kind}
-use Rattle.text.specs.declared.kind.Kind.TheVariants as kind
+use Rattle.text.specs.declared.kind.Kind.TheVariants as kinds
 use Rattle.text.specs.declared.reader.Stage.TheVariants.{Start, Atoms, Rules}
 use Rattle.text.specs.declared.counts.Counts.{Counts}
+use Rattle.grammar.specs.Notations.{Notation}
 
 -- a text begins with a word if its first byte is the word's, and what follows begins with the rest
 begins_step : (b : ℕ) (word text : List ℕ) (at : ℕ) → begins (b ∷ word) (drop at text) ≡ (is_byte b (slice_get text at) && begins word (drop (at + 1) text))
@@ -102,7 +103,7 @@ told (Some b) =
 
 -- the kind, by whether the text begins with each opening
 abbrev kind_by : Bool → Bool → Bool → Bool → Bool → Option Kind
-kind_by o a r v e = cond o (Some kind.Order) (cond a (Some kind.Atom) (cond r (Some kind.Rule) (cond v (Some kind.Void) (cond e (Some kind.End) None))))
+kind_by o a r v e = cond o (Some kinds.Order) (cond a (Some kinds.Atom) (cond r (Some kinds.Rule) (cond v (Some kinds.Void) (cond e (Some kinds.End) None))))
 
 kind_same : (o a r v e o' a' r' v' e' : Bool) → o ≡ o' → a ≡ a' → r ≡ r' → v ≡ v' → e ≡ e' → kind_by o' a' r' v' e' ≡ kind_by o a r v e
 kind_same o a r v e o' a' r' v' e' p q s t u = rw (p, q, s, t, u)
@@ -280,10 +281,10 @@ module _ (S : Type 0) where
         (λ s. and_then (pass_word closing text s.1)
         (λ next. Ok (atom_line (record { stamp = s.0; reading = k.0 }), next)))))))
 
-module _ {S : Type 0} (stamp_at : List ℕ → ℕ → Result (S × ℕ) Fault) (word : List ℕ) (room : Counts) (atoms rules : ℕ) where
+module _ {S : Type 0} (kind : Notation S) (room : Counts) (atoms rules : ℕ) where
   -- an atom, from the byte after its bracket, which stands at `at`
   abbrev pub after_atom : ℕ → List ℕ → ℕ → Result (Line S × ℕ) Fault
-  after_atom at text m = and_then (pass_word atom_word text m) (atom_rest S room atoms rules stamp_at at text)
+  after_atom at text m = and_then (pass_word atom_word text m) (atom_rest S room atoms rules kind.stamp_at at text)
 
   -- a rule, from the byte after its bracket
   abbrev pub after_rule : ℕ → List ℕ → ℕ → Result (Line S × ℕ) Fault
@@ -298,14 +299,14 @@ module _ {S : Type 0} (stamp_at : List ℕ → ℕ → Result (S × ℕ) Fault) 
   after_end = end_rest S
 
   -- at the start only an order is allowed
-  pub start_same : (text : List ℕ) (at : ℕ) → order_at word text at ≡ form_at stamp_at word text room (record { stage = Start; next = at; atoms = atoms; rules = rules })
+  pub start_same : (text : List ℕ) (at : ℕ) → order_at kind.word text at ≡ form_at kind.stamp_at kind.word text room (record { stage = Start; next = at; atoms = atoms; rules = rules })
   unfolding form_at refused_at order_at
   start_same text at =
       let bytes = drop at text in
       one_by _ _ (begins order_opening bytes) (begins atom_opening bytes) (begins rule_opening bytes) (begins void_opening bytes) (begins end_opening bytes) (word_refused order_opening text at _)
 
   -- among rules a form is told by its second byte
-  pub rules_same : (text : List ℕ) (at : ℕ) → and_then (pass_at 40 text at) (λ m. cond (is_byte 114 (slice_get text m)) (after_rule at text m) (cond (is_byte 118 (slice_get text m)) (after_void at text m) (after_end text m))) ≡ form_at stamp_at word text room (record { stage = Rules; next = at; atoms = atoms; rules = rules })
+  pub rules_same : (text : List ℕ) (at : ℕ) → and_then (pass_at 40 text at) (λ m. cond (is_byte 114 (slice_get text m)) (after_rule at text m) (cond (is_byte 118 (slice_get text m)) (after_void at text m) (after_end text m))) ≡ form_at kind.stamp_at kind.word text room (record { stage = Rules; next = at; atoms = atoms; rules = rules })
   unfolding form_at refused_at agrees_to rule_form_at void_at end_at
   rules_same text at =
       let m = at + 1 in
@@ -318,7 +319,7 @@ module _ {S : Type 0} (stamp_at : List ℕ → ℕ → Result (S × ℕ) Fault) 
       ∙ table_same _ _ _ _ _ _ _ _ _ _ _ _ (kind_at text at) place place (sym (word_first 40 _ text at _)) (sym (word_first 40 _ text at _)) (sym (word_first 40 _ text at _))
 
   -- and among atoms too
-  pub atoms_same : (text : List ℕ) (at : ℕ) → and_then (pass_at 40 text at) (λ m. cond (is_byte 97 (slice_get text m)) (after_atom at text m) (cond (is_byte 114 (slice_get text m)) (after_rule at text m) (cond (is_byte 118 (slice_get text m)) (after_void at text m) (after_end text m)))) ≡ form_at stamp_at word text room (record { stage = Atoms; next = at; atoms = atoms; rules = rules })
+  pub atoms_same : (text : List ℕ) (at : ℕ) → and_then (pass_at 40 text at) (λ m. cond (is_byte 97 (slice_get text m)) (after_atom at text m) (cond (is_byte 114 (slice_get text m)) (after_rule at text m) (cond (is_byte 118 (slice_get text m)) (after_void at text m) (after_end text m)))) ≡ form_at kind.stamp_at kind.word text room (record { stage = Atoms; next = at; atoms = atoms; rules = rules })
   unfolding form_at refused_at agrees_to atom_at rule_form_at void_at end_at
   atoms_same text at =
       let m = at + 1 in

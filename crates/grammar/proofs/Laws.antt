@@ -4,22 +4,19 @@ use Rattle.books.specs.Check.{book_fault, unless}
 use Rattle.books.specs.Meaning.{Meaning}
 use Rattle.books.specs.declared.fault.Fault.{Fault}
 use Rattle.text.specs.Bytes.{and_then}
-use Rattle.text.specs.Forms.{form_at}
 use Rattle.text.specs.Reads.{room_of}
 use Rattle.text.specs.declared.counts.Counts.{Counts}
-use Rattle.text.specs.declared.reader.Stage.{Stage}
 use Rattle.writing.specs.Replies.{checked_text, canonical_at}
 use Rattle.writing.specs.Writes.{book_gap, write_answer}
-use Rattle.grammar.specs.Agreement.{Agrees, NoDigit}
+use Rattle.grammar.specs.Agreement.{NoDigit}
 use Rattle.grammar.specs.Notations.{Notation, ticks, routes, pairs}
 use Rattle.grammar.specs.Pieces.{kept}
 use Rattle.grammar.specs.Theorems.{read_as, written_of, ReadingIsTheGrammar, WrittenIsReadBack, AcceptedComesBack, CanonicalIsUnchanged, DegreesNest, AnswerIsItsOwn, RefusedAtTheFirstByte}
-use Rattle.grammar.proofs.Agreeing.{Any, agrees_before}
+use Rattle.grammar.proofs.Agreeing.{agrees_before}
 use Rattle.grammar.proofs.Aisled.{route_agrees}
 use Rattle.grammar.proofs.Books.{book_canonical, book_unique, spelt_held, spelt_gapless}
 use Rattle.grammar.proofs.Canonical.{tick_canonical, tick_unique, tick_fits, pair_canonical, pair_unique, pair_fits}
-use Rattle.grammar.proofs.Lines.{FormAt}
-use Rattle.grammar.proofs.Rests.{Going}
+use Rattle.grammar.proofs.Lines.{FormsAgree}
 use Rattle.grammar.proofs.Routes.{route_canonical, route_unique, route_fits}
 use Rattle.grammar.proofs.Staged.{forms_agree}
 use Rattle.grammar.proofs.Stamped.{tick_agrees, pair_agrees}
@@ -61,17 +58,17 @@ lawful_routes =
     }
 
 module _ {S : Type 0} (n : Notation S) (l : Lawful n) where
-  forms : (room : Counts) (stage : Stage) → Going stage → (atoms rules : ℕ) → Agrees (λ text at. form_at n.stamp_at n.word text room (record { stage = stage; next = at; atoms = atoms; rules = rules })) (FormAt n.word n.spells room stage atoms rules) Any
-  forms room stage g atoms rules = forms_agree n.stamp_at n.word n.spells room l.agrees atoms rules stage g
+  forms : (room : Counts) → FormsAgree n room
+  forms room stage g atoms rules = forms_agree n room l.agrees atoms rules stage g
 
   -- a text is read as a book exactly where it spells it and the tables take it
   pub reading_is_the_grammar_lem : ReadingIsTheGrammar n
   reading_is_the_grammar_lem text atoms rules m =
       let room = room_of atoms rules in
       record {
-        spelling = λ e. (book_seen n.stamp_at n.word n.spells room (forms room) text m e).0;
-        takes = λ e. let b = book_seen n.stamp_at n.word n.spells room (forms room) text m e in record { few_atoms = b.1; few_rules = b.2 };
-        reads = λ h t. elim (book_reads n.stamp_at n.word n.spells room (forms room) kept text m h (t.few_atoms, t.few_rules)) [ inl e ↦ e | inr z ↦ absurd z.0 ];
+        spelling = λ e. (book_seen n room (forms room) text m e).0;
+        takes = λ e. let b = book_seen n room (forms room) text m e in record { few_atoms = b.1; few_rules = b.2 };
+        reads = λ h t. elim (book_reads n room (forms room) kept text m h (t.few_atoms, t.few_rules)) [ inl e ↦ e | inr z ↦ absurd z.0 ];
       }
 
   -- a book that is written is read back
@@ -132,9 +129,9 @@ module _ {S : Type 0} (n : Notation S) (l : Lawful n) where
   pub refused_at_the_first_byte_lem : RefusedAtTheFirstByte n
   refused_at_the_first_byte_lem text atoms rules k e =
       let room = room_of atoms rules in
-      let viable = book_viable n.stamp_at n.word n.spells room (forms room) text k e in
+      let viable = book_viable n room (forms room) text k e in
       record {
         within = viable.0;
         before = (viable.1.0, (viable.1.1, viable.1.2));
-        none = λ below more (m, h). book_none n.stamp_at n.word n.spells room (forms room) text k e below more m h;
+        none = λ below more (m, h). book_none n room (forms room) text k e below more m h;
       }
