@@ -13,7 +13,7 @@ pub const MAX_RULES: usize = 1024;
 
 pub const MAX_BODY: usize = 6;
 
-// One rule number: lengths, head, then the literals. A vacant number passes.
+// One rule number: lengths, head, then the literals, up to the first fault, which is the error. A vacant number passes.
 pub fn check_rule<B: Book>(book: &B, rule: usize) -> Result<(), Fault>
     ensures { result ≡ unless (rule_fault B.Stamp.Order.tests (B.Book.meaning book.now) rule) }
 {
@@ -21,7 +21,7 @@ pub fn check_rule<B: Book>(book: &B, rule: usize) -> Result<(), Fault>
     Ok(())
 }
 
-// Both counts, then the rules by number, up to the first fault.
+// Both counts, then the rules by number, up to the first fault, which is the error.
 #[tactic(auto, using(crate::proofs::Verdicts::judged_at))]
 pub fn check<B: Book>(book: &B) -> Result<(), Fault>
     ensures answer { result ≡ unless (book_fault B.Stamp.Order.tests (B.Book.meaning book.now)) }

@@ -5,7 +5,7 @@ ghost use Rattle.books.specs.declared.fault.Fault.TheVariants.{Reading, Checking
 
 use std::fmt;
 
-// The part of the product that refused.
+// The part of the product that refused, as refusals are told; no fault of a running book is here yet.
 #[derive(Clone, Copy, PartialEq, Eq, Debug)]
 pub enum Layer {
     Reading,
@@ -20,7 +20,7 @@ pub enum Values {
     RuleLiteral(usize, usize),
 }
 
-// A refusal as it is told.
+// A refusal as it is told, by its number in the table of refusals.
 #[derive(Clone, Copy, PartialEq, Eq, Debug)]
 pub struct Refusal {
     pub layer: Layer,

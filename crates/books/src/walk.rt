@@ -30,11 +30,12 @@ impl Asked {
     }
 }
 
-// The tests at the numbers below `count` in order, up to the first that refuses.
+// The tests at the numbers below `count` in order, up to the first that refuses, with its error.
 pub fn first_refusal<E, F: Fn(usize) -> Result<(), E>>(count: usize, test: F) -> Result<(), E>
     requires { (i : ℕ) → i < count → F.pre test i }
     ensures { (fault_at : ℕ → Option E) → Answers (F.post test) count fault_at → result ≡ refused_by (first_below count fault_at) }
 {
+    // A loop and no `try_for_each`, whose clauses have no word for the first refusal.
     for i in 0..count {
         test(i)?;
     }
@@ -128,7 +129,7 @@ pub(crate) fn walk_rule<B: Book>(book: &B, asked: Asked, rule: usize) -> Result<
     first_refusal(positives + negatives, |index| walked.check_literal(index))
 }
 
-// Both counts, then the rules by number, up to the first fault.
+// Both counts, then the rules by number, up to the first fault, which is the error.
 pub fn walk<B: Book>(book: &B, asked: Asked) -> Result<(), CheckFault>
     ensures { result ≡ refused_by (book_walk asked B.Stamp.Order.tests (B.Book.meaning book.now)) }
 {

@@ -1,11 +1,12 @@
 -- The form at a place, chosen byte by byte.
-use Rattle.std.proofs.Common.{◌≡◌, ℕ, zero, suc, ◌+◌, ◌≤◌, max, Bool, true, false, cond, ◌&&◌, eqb, List, [], ◌∷◌, drop, Some, None, Ok, codes, Option, Result, sym, refl, ap, ◌∙◌, subst, inl, inr, add-one, arith}
+use Rattle.std.proofs.Common.{◌≡◌, ℕ, ◌+◌, ◌≤◌, max, Bool, true, false, cond, ◌&&◌, eqb, List, [], ◌∷◌, drop, Some, None, Ok, codes, Option, Result, sym, refl, ap, ◌∙◌, subst, inl, inr, arith}
 use Rattle.std.proofs.lemmas.Bool.{cases_eq, ne_eqb}
 use Rattle.std.specs.List.{slice_get}
 use Rattle.books.specs.declared.fault.Fault.{Fault}
-use Rattle.text.specs.Bytes.{and_then, wrong_at, pass_at, pass_if}
+use Rattle.text.specs.Bytes.{and_then, wrong_at, pass_at}
 use Rattle.text.specs.Words.{pass_word, agrees_to, is_byte}
 use Rattle.text.specs.Kinds.{order_opening, atom_opening, rule_opening, void_opening, end_opening, begins, kind_of}
+use Rattle.text.proofs.Opened.{begins_step, pass_if_lem}
 use Rattle.text.specs.Rules.{rule_at}
 use Rattle.text.specs.Forms.{Line, atom_line, rule_line, end_line, closing, next_number, if_room, reading_at, order_at, atom_at, rule_form_at, void_at, end_at, refused_at, by_kind, form_at}
 use Rattle.text.specs.declared.kind.Kind.{Kind}
@@ -13,21 +14,6 @@ use Rattle.text.specs.declared.kind.Kind.TheVariants as kinds
 use Rattle.text.specs.declared.reader.Stage.TheVariants.{Start, Atoms, Rules}
 use Rattle.text.specs.declared.counts.Counts.{Counts}
 use Rattle.grammar.specs.Notations.{Notation}
-
--- a text begins with a word if its first byte is the word's, and what follows begins with the rest
-begins_step : (b : ℕ) (word text : List ℕ) (at : ℕ) → begins (b ∷ word) (drop at text) ≡ (is_byte b (slice_get text at) && begins word (drop (at + 1) text))
-begins_step b word text at = by_suc text at ∙ ap (λ n. is_byte b (slice_get text at) && begins word (drop n text)) (sym (add-one at))
-  where
-    by_suc : (text : List ℕ) (at : ℕ) → begins (b ∷ word) (drop at text) ≡ (is_byte b (slice_get text at) && begins word (drop (suc at) text))
-    by_suc [] zero = refl
-    by_suc [] (suc at) = refl
-    by_suc (x ∷ text) zero = refl
-    by_suc (x ∷ text) (suc at) = by_suc text at
-
--- a byte is passed where it stands
-pass_if_lem : (b at : ℕ) (o : Option ℕ) → pass_if b at o ≡ cond (is_byte b o) (Ok (at + 1)) (wrong_at at)
-pass_if_lem b at None = refl
-pass_if_lem b at (Some x) = refl
 
 pass_by : {X : Type 0} (t : Bool) (at m : ℕ) (K : ℕ → Result X Fault) → and_then (cond t (Ok m) (wrong_at at)) K ≡ cond t (K m) (wrong_at at)
 pass_by true at m K = refl

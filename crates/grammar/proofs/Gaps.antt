@@ -9,9 +9,9 @@ use Rattle.std.specs.Option.{option_map, option_and_then, option_flatten}
 use Rattle.books.proofs.First.{first_none, first_all, within}
 use Rattle.books.specs.Check.{first_below}
 use Rattle.books.specs.Meaning.{Rule, Atom, Meaning, rule_at, stamp_of, literals}
+use Rattle.books.specs.declared.book.Sign.TheVariants.{Positive, Negative}
 use Rattle.books.specs.declared.fault.CheckFault.{CheckFault}
 use Rattle.books.specs.declared.fault.CheckFault.TheVariants.{BodyTooLong, HeadMissing, LiteralMissing}
-use Rattle.books.specs.declared.book.Sign.TheVariants.{Positive, Negative}
 use Rattle.text.specs.Spelt.{body_in}
 use Rattle.writing.proofs.Gapless.{small_atoms, small_rules, few_everywhere}
 use Rattle.writing.specs.Writes.{missing, literal_gap, rule_gap, book_gap}

@@ -31,6 +31,10 @@ slot_atom t s = record { stamp = record { first = record { 0 = t }; second = rec
 abbrev pub started_by : ℕ → List Step → Bool
 started_by t = list_all (λ s. nat_le s.back t)
 
+-- the slots of the steps are among so many
+abbrev pub slots_there : ℕ → List Step → Bool
+slots_there width = list_all (λ s. nat_lt s.slot width)
+
 -- the atom of a step from tick t, with so many slots
 abbrev pub atom_back : ℕ → ℕ → Step → ℕ
 atom_back width t s = (t - s.back) * width + s.slot

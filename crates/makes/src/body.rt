@@ -10,7 +10,8 @@ mod listed;
 #[derive(Clone, Copy, PartialEq, Eq, Debug)]
 pub struct TooLong;
 
-// The first `len` of the array.
+// The first `len` of the array: a list that grows would allocate, and rows are copied in lent tables.
+// `within` follows from the array's type, yet a lemma over a body does not see that type.
 #[derive(Debug)]
 pub struct Body<T = usize> {
     items: [T; 6],
@@ -19,7 +20,7 @@ pub struct Body<T = usize> {
     ghost within: { len ≤ length items },
 }
 
-// By hand: no derive makes a copy of a struct with ghost fields.
+// By hand: no derive makes a copy of a struct with a ghost field.
 impl<T: Copy> Clone for Body<T> {
     ghost is_clone = { λ x y. y ≡ x };
 

@@ -8,7 +8,7 @@ use crate::rows::{AtomRow, RuleRow};
 use books::book::{Book, Sign};
 use stamps::order::Order;
 
-// Row k of a table is atom or rule number k; a rule number whose row is None is vacant.
+// Row k of a table is atom or rule number k; a rule number whose row is None is vacant. The tables are lent, so that nothing allocates.
 #[derive(Clone, Copy)]
 pub struct Flat<'a, S> {
     pub atoms: &'a [AtomRow<S>],

@@ -8,7 +8,8 @@ mod answers;
 mod making;
 mod numbering;
 
-// Slot s at tick t is atom t × W + s, and pattern p at tick t is rule t × P + p, with W slots and P patterns.
+// Slot s at tick t is atom t × W + s, and pattern p at tick t is rule t × P + p, with W slots and P patterns. The tables are lent, so that nothing allocates.
+// What is known of a made book is a ghost field: a struct that is copied and has a lifetime can have no model.
 #[derive(Clone, Copy)]
 pub struct Repeating<'a> {
     slots: &'a [Slot],

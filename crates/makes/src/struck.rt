@@ -14,7 +14,7 @@ use words::numbers::{add, has};
 // The numbers that can be struck lie below this one.
 pub const MAX_STRUCK: usize = 1024;
 
-// A book and the set of its struck rule numbers.
+// A book and the set of its struck rule numbers. The set has room for each number of a book, so its size is no parameter.
 #[derive(Clone, Copy)]
 pub struct Struck<B> {
     below: B,

@@ -1,8 +1,8 @@
 -- What is written of one aisle.
-use Rattle.std.proofs.Common.{◌≡◌, ℕ, ◌*◌, ◌/◌, ◌%◌, ◌^◌, ◌<◌, [], ◌++◌, decimal, sym, ap, ◌∙◌}
+use Rattle.std.proofs.Common.{◌≡◌, ℕ, ◌*◌, ◌/◌, ◌%◌, ◌^◌, ◌<◌, [], ap, ◌∙◌}
 use Rattle.std.proofs.lemmas.Nat.{one_shl}
-use Rattle.std.proofs.lemmas.Bool.{eq-eqb, ne_eqb, cond-true, cond-false}
-use Rattle.text.specs.Spelt.{aisle_text, space}
+use Rattle.std.proofs.lemmas.Bool.{ne_eqb, cond-false}
+use Rattle.text.specs.Spelt.{aisle_text}
 
 module _ (aisles k bit : ℕ) (h : k < 64) (e : bit ≡ (1 * 2 ^ k) % 2 ^ 64) where
   is_bit : bit ≡ 2 ^ k

@@ -71,8 +71,8 @@ fills_none stamp_at spelling text room a b =
     }
 
 module _
-  {S : Type 0} {stamp_at : List ℕ → ℕ → Result (S × ℕ) Fault} {spelling : List ℕ} {text : List ℕ} {room : Counts} {n : ℕ} {r : Reader}
-  {a₀ a : List (AtomRow S)} {b₀ b : List (Option RuleRow)} (h : Fills stamp_at spelling text room n r a₀ a b₀ b) where
+    {S : Type 0} {stamp_at : List ℕ → ℕ → Result (S × ℕ) Fault} {spelling : List ℕ} {text : List ℕ} {room : Counts} {n : ℕ} {r : Reader}
+    {a₀ a : List (AtomRow S)} {b₀ b : List (Option RuleRow)} (h : Fills stamp_at spelling text room n r a₀ a b₀ b) where
   abbrev step : Progress S → Result (Progress S) Fault
   step = one_form stamp_at spelling text room
 

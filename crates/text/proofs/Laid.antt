@@ -3,7 +3,7 @@ use Rattle.std.proofs.Common.{◌≡◌, ℕ, ◌+◌, ◌*◌, ◌^◌, ◌<◌
 use Rattle.std.proofs.lemmas.List.{at_drop_more, at_drop_all, set_at, length_push, append-nil, append_assoc}
 use Rattle.std.proofs.lemmas.Fmt.{length-decimal-le}
 use Rattle.text.specs.Spelt.{up_to}
-use Rattle.text.specs.Written.{laid, Wrote, Writes}
+use Rattle.text.specs.Written.{laid, Writes}
 use Rattle.text.specs.declared.sheet.Sheet.{Sheet}
 
 pub laid_more : (sheet bytes : List ℕ) (at i : ℕ) → i < length bytes → laid sheet at (drop i bytes) ≡ laid (set sheet at (get_or bytes i 0)) (at + 1) (drop (i + 1) bytes)
@@ -41,7 +41,7 @@ pub writes_then : {was mid is : Sheet} {xs ys : List ℕ} → Writes was xs mid 
 writes_then {was} {mid} {is} {xs} {ys} h k =
     let w = was.bytes.now in
     let held : is.bytes.now ≡ laid w was.at (xs ++ ys) =
-        k.wrote.held ∙ ap (λ s. laid s mid.at ys) h.wrote.held ∙ ap (λ n. laid (laid w was.at xs) n ys) h.wrote.place ∙ sym (laid-append w xs ys was.at) in
+    k.wrote.held ∙ ap (λ s. laid s mid.at ys) h.wrote.held ∙ ap (λ n. laid (laid w was.at xs) n ys) h.wrote.place ∙ sym (laid-append w xs ys was.at) in
     let n = length-append xs ys in
     let p = h.wrote.place in
     let q = k.wrote.place in

@@ -2,6 +2,7 @@ pub mod Turned
 pub mod Digits
 pub mod Risen
 pub mod Worded
+pub mod Opened
 pub mod Bodied
 pub mod Surveyed
 pub mod Filled

@@ -23,6 +23,14 @@ void_opening = codes "(void "
 abbrev pub end_opening : List ℕ
 end_opening = codes "(end)"
 
+-- how a form of the kind begins
+abbrev pub opening_of : Kind → List ℕ
+opening_of Order = order_opening
+opening_of Atom = atom_opening
+opening_of Rule = rule_opening
+opening_of Void = void_opening
+opening_of End = end_opening
+
 -- whether the bytes begin with a word
 abbrev pub begins : List ℕ → List ℕ → Bool
 begins [] bytes = true

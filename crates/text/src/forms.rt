@@ -1,13 +1,15 @@
 // Reading one form.
-ghost use Rattle.std.specs.Prelude.{◌≡◌, IfOk};
+ghost use Rattle.std.specs.Prelude.{◌≡◌, Ok, IfOk};
 ghost use Rattle.text.specs.Cursors.{Passed, Took, TookAs};
-ghost use Rattle.text.specs.Forms.{line_of, next_number, reading_at, order_at, atom_at, rule_form_at, void_at, end_at, refused_at, form_at};
+ghost use Rattle.text.specs.Forms.{line_of, next_number, reading_at, atom_at, rule_form_at, void_at, refused_at, form_at};
+ghost use Rattle.text.specs.Kinds.{atom_opening, rule_opening, void_opening};
+ghost use Rattle.text.specs.Words.{pass_word};
 ghost use Rattle.text.specs.Reads.{moved_by, Roomy, Stepped};
 
 use crate::counts::Counts;
 use crate::cursor::Cursor;
 use crate::form::Form;
-use crate::kind::{Kind, kind_at};
+use crate::kind::Kind;
 use crate::numbers::MAX_NUMBER;
 use crate::phrases::agreed;
 use crate::reader::{Reader, Stage};
@@ -46,28 +48,16 @@ impl Cursor<'_> {
     }
 }
 
-#[tactic(auto, unfolding(crate::specs::Forms::order_at))]
-fn order_form<S: Spelled>(cursor: &mut Cursor<'_>) -> Result<Form<S>, ReadFault>
-    ensures plain { IfOk result (λ f. f ≡ Form.Order) }
-    ensures value { TookAs line_of result cursor.old cursor.new (order_at S.Spelled.spelling cursor.old.text.now cursor.old.at) }
-{
-    cursor.word(b"(order ")?;
-    cursor.word(S::word())?;
-    cursor.word(b")\n")?;
-    Ok(Form::Order)
-}
-
 #[tactic(auto, unfolding(crate::specs::Forms::atom_at))]
 fn atom_form<S: Spelled>(
     cursor: &mut Cursor<'_>,
     room: Counts,
     reader: Reader,
 ) -> Result<Form<S>, ReadFault>
-    requires { cursor.old.at ≡ reader.next }
+    requires { Ok cursor.old.at ≡ pass_word atom_opening cursor.old.text.now reader.next }
     ensures roomy { IfOk result (λ f. Roomy room reader f) }
     ensures value { TookAs line_of result cursor.old cursor.new (atom_at S.Spelled.stamp_at cursor.old.text.now room reader) }
 {
-    cursor.word(b"(atom ")?;
     if reader.atoms >= room.atoms {
         return Err(ReadFault::TooMany { place: reader.next });
     }
@@ -85,11 +75,10 @@ fn rule_form<S: Spelled>(
     room: Counts,
     reader: Reader,
 ) -> Result<Form<S>, ReadFault>
-    requires { cursor.old.at ≡ reader.next }
+    requires { Ok cursor.old.at ≡ pass_word rule_opening cursor.old.text.now reader.next }
     ensures roomy { IfOk result (λ f. Roomy room reader f) }
     ensures value { TookAs line_of result cursor.old cursor.new (rule_form_at cursor.old.text.now room reader) }
 {
-    cursor.word(b"(rule ")?;
     if reader.rules >= room.rules {
         return Err(ReadFault::TooMany { place: reader.next });
     }
@@ -109,11 +98,10 @@ fn void_form<S: Spelled>(
     room: Counts,
     reader: Reader,
 ) -> Result<Form<S>, ReadFault>
-    requires { cursor.old.at ≡ reader.next }
+    requires { Ok cursor.old.at ≡ pass_word void_opening cursor.old.text.now reader.next }
     ensures roomy { IfOk result (λ f. Roomy room reader f) }
     ensures value { TookAs line_of result cursor.old cursor.new (void_at cursor.old.text.now room reader) }
 {
-    cursor.word(b"(void ")?;
     if reader.rules >= room.rules {
         return Err(ReadFault::TooMany { place: reader.next });
     }
@@ -122,27 +110,17 @@ fn void_form<S: Spelled>(
     Ok(Form::Rule(None))
 }
 
-#[tactic(auto, unfolding(crate::specs::Forms::end_at))]
-fn end_form<S: Spelled>(cursor: &mut Cursor<'_>) -> Result<Form<S>, ReadFault>
-    ensures plain { IfOk result (λ f. f ≡ Form.End) }
-    ensures value { TookAs line_of result cursor.old cursor.new (end_at cursor.old.text.now cursor.old.at) }
-{
-    cursor.word(b"(end)")?;
-    cursor.pass(b'\n')?;
-    Ok(Form::End)
-}
-
 // The place of the first byte that no form allowed at the stage has there.
 #[tactic(auto, unfolding(crate::specs::Forms::refused_at))]
 fn refused_at(text: &[u8], stage: Stage, at: usize) -> usize
     ensures { result ≡ refused_at text.now stage at }
 {
-    let rule = agreed(text, at, b"(rule ");
-    let void = agreed(text, at, b"(void ");
-    let end = agreed(text, at, b"(end)");
+    let rule = agreed(text, at, Kind::Rule.opening());
+    let void = agreed(text, at, Kind::Void.opening());
+    let end = agreed(text, at, Kind::End.opening());
     match stage {
-        Stage::Start => agreed(text, at, b"(order "),
-        Stage::Atoms => agreed(text, at, b"(atom ").max(rule.max(void.max(end))),
+        Stage::Start => agreed(text, at, Kind::Order.opening()),
+        Stage::Atoms => agreed(text, at, Kind::Atom.opening()).max(rule.max(void.max(end))),
         Stage::Rules => rule.max(void.max(end)),
         Stage::End => at,
     }
@@ -181,20 +159,27 @@ fn moved<S: Spelled>(reader: Reader, room: Counts, form: Form<S>, next: usize) -
 
 impl Reader {
     // The form at which the reader stands, by its stage and the form's kind.
-    #[tactic(auto, unfolding(crate::specs::Forms::form_at))]
+    #[tactic(auto, unfolding(crate::specs::Forms::form_at, crate::specs::Forms::order_at, crate::specs::Forms::end_at))]
     fn form<S: Spelled>(&self, cursor: &mut Cursor<'_>, room: Counts) -> Result<Form<S>, ReadFault>
         requires { cursor.old.at ≡ self.now.next }
         ensures roomy { IfOk result (λ f. Roomy room self.now f) }
         ensures value { TookAs line_of result cursor.old cursor.new (form_at S.Spelled.stamp_at S.Spelled.spelling cursor.old.text.now room self.now) }
     {
-        match (self.stage, kind_at(cursor.text, cursor.at)) {
-            (Stage::Start, Some(Kind::Order)) => order_form(cursor),
+        match (self.stage, cursor.opening()) {
+            (Stage::Start, Some(Kind::Order)) => {
+                cursor.word(S::word())?;
+                cursor.word(b")\n")?;
+                Ok(Form::Order)
+            }
             (Stage::Atoms, Some(Kind::Atom)) => atom_form(cursor, room, *self),
             (Stage::Atoms | Stage::Rules, Some(Kind::Rule)) => rule_form(cursor, room, *self),
             (Stage::Atoms | Stage::Rules, Some(Kind::Void)) => void_form(cursor, room, *self),
-            (Stage::Atoms | Stage::Rules, Some(Kind::End)) => end_form(cursor),
+            (Stage::Atoms | Stage::Rules, Some(Kind::End)) => {
+                cursor.pass(b'\n')?;
+                Ok(Form::End)
+            }
             _ => Err(ReadFault::Byte {
-                place: refused_at(cursor.text, self.stage, cursor.at),
+                place: refused_at(cursor.text, self.stage, self.next),
             }),
         }
     }

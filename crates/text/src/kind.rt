@@ -1,6 +1,9 @@
 // The kinds of forms.
-ghost use Rattle.std.specs.Prelude.{◌≡◌, drop};
-ghost use Rattle.text.specs.Kinds.{kind_of};
+ghost use Rattle.std.specs.Prelude.{◌≡◌, ◌≤◌, length, drop, Ok, IfSome};
+ghost use Rattle.text.specs.Kinds.{opening_of, kind_of};
+ghost use Rattle.text.specs.Words.{pass_word};
+
+use crate::cursor::Cursor;
 
 #[derive(Clone, Copy)]
 pub enum Kind {
@@ -25,13 +28,31 @@ fn told(line: &[u8]) -> Option<Kind>
     }
 }
 
-// The kind of form that begins at a place, if one does.
-pub fn kind_at(text: &[u8], at: usize) -> Option<Kind>
-    ensures { result ≡ kind_of (drop at text.now) }
-{
-    if at < text.len() {
-        told(&text[at..])
-    } else {
-        None
+impl Kind {
+    // How a form of the kind begins: its word, and the byte after it.
+    pub fn opening(self) -> &'static [u8]
+        ensures value { result.now ≡ opening_of self }
+        ensures short { length result.now ≤ 7 }
+    {
+        match self {
+            Kind::Order => b"(order ",
+            Kind::Atom => b"(atom ",
+            Kind::Rule => b"(rule ",
+            Kind::Void => b"(void ",
+            Kind::End => b"(end)",
+        }
+    }
+}
+
+impl Cursor<'_> {
+    // Passes over the opening of a form, if one stands there, and says which kind of form it begins.
+    pub(crate) fn opening(&mut self) -> Option<Kind>
+        ensures kind { result ≡ kind_of (drop self.old.at self.old.text.now) }
+        ensures passed { IfSome result (λ kind. Ok self.new.at ≡ pass_word (opening_of kind) self.old.text.now self.old.at) }
+        ensures same { self.new.text.now ≡ self.old.text.now }
+    {
+        let kind = told(self.text.get(self.at..)?)?;
+        self.at += kind.opening().len();
+        Some(kind)
     }
 }

@@ -15,6 +15,7 @@ use stamps::tick::Tick;
 
 impl Repeating<'_> {
     // A slot at its tick.
+    #[tactic(auto, using(crate::proofs::Ticks::places))]
     fn atom(&self, atom: usize) -> Option<AtomRow<Then<Tick, Tick>>>
         ensures { option_map atom_of result ≡ slice_get (every_tick slot_atom self.now.slots.now self.now.ticks) atom }
     {
@@ -23,7 +24,7 @@ impl Repeating<'_> {
             return None;
         }
         let slot = self.slots[atom % width];
-        // The quotient is a tick, which is at most 1,024: a conversion that may fail would have nothing to refuse.
+        // A cast, since the quotient is below 1,024: a conversion that may fail would have nothing to refuse.
         let first = Tick((atom / width) as u32);
         let second = Tick(u32::from(slot.stage));
         Some(AtomRow {
@@ -33,6 +34,7 @@ impl Repeating<'_> {
     }
 
     // A pattern at its tick; none where it is vacant.
+    #[tactic(auto, using(crate::proofs::Ticks::places, crate::proofs::Making::made_book))]
     fn rule(&self, rule: usize) -> Option<RuleRow>
         ensures { option_map rule_of result ≡ option_flatten (slice_get (every_tick (instance_of (length self.now.slots.now)) self.now.patterns.now self.now.ticks) rule) }
     {
@@ -44,6 +46,8 @@ impl Repeating<'_> {
     }
 }
 
+// The answers are those of a flat book over a row. They are not one blanket impl: that would overlap with the struck book's.
+#[tactic(auto, using(crate::proofs::Ticks::lengths))]
 impl Book for Repeating<'_> {
     type Stamp = Then<Tick, Tick>;
 
