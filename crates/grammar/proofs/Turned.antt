@@ -19,7 +19,7 @@ use Rattle.text.specs.declared.reader.Stage.TheVariants.{Start, Atoms, Rules, En
 use Rattle.grammar.specs.Pieces.{Care, kept, Exactly, Followed}
 use Rattle.grammar.specs.Agreement.{Between, Seen}
 use Rattle.grammar.proofs.Agreeing.{then_then, then_same}
-use Rattle.grammar.proofs.Lines.{FormAt, Going, FormsAgree}
+use Rattle.grammar.proofs.Lines.{FormAt, Going, FormsAgree, reads_form}
 use Rattle.grammar.proofs.Onward.{with_atom, with_rule, onward, lines}
 use Rattle.grammar.proofs.Rests.{bare}
 use Rattle.grammar.proofs.Turning.{tries_first, tries_stay}
@@ -110,7 +110,7 @@ module _ {S : Type 0} (kind : Notation S) (room : Counts) (text : List ℕ) wher
   finish s = cond (is_end s.reader.stage) (Ok (record { atoms = s.atoms; rules = s.rules })) (wrong_at (length text))
 
   -- at the end of the text no form stands
-  form_ends : (stage : Stage) → Going stage → (at a r : ℕ) → length text ≤ at → form_at kind.stamp_at kind.word text room (place stage at a r) ≡ wrong_at at
+  form_ends : (stage : Stage) → Going stage → (at a r : ℕ) → length text ≤ at → reads_form kind room stage a r text at ≡ wrong_at at
   unfolding form_at
   form_ends Start g at a r l = ap (λ t. form_in kind.stamp_at kind.word text room (place Start at a r) (wrong_at (refused_at text Start at)) Start (kind_of t)) (drop_all at text l) ∙ ap wrong_at (refused_there text Start at l)
   form_ends Atoms g at a r l = ap (λ t. form_in kind.stamp_at kind.word text room (place Atoms at a r) (wrong_at (refused_at text Atoms at)) Atoms (kind_of t)) (drop_all at text l) ∙ ap wrong_at (refused_there text Atoms at l)
@@ -118,7 +118,7 @@ module _ {S : Type 0} (kind : Notation S) (room : Counts) (text : List ℕ) wher
   form_ends End g at a r l = absurd g
 
   -- past the end form none is allowed
-  form_past : (at a r : ℕ) → form_at kind.stamp_at kind.word text room (place End at a r) ≡ wrong_at at
+  form_past : (at a r : ℕ) → reads_form kind room End a r text at ≡ wrong_at at
   unfolding form_at refused_at
   form_past at a r = refl
 
@@ -128,7 +128,7 @@ module _ {S : Type 0} (kind : Notation S) (room : Counts) (text : List ℕ) wher
   unfinished Rules g at a r xs os = refl
   unfinished End g at a r xs os = absurd g
 
-  one_form_is : (stage : Stage) → Going stage → (at a r : ℕ) (xs : List (Atom S)) (os : List (Option Rule)) → form (progress stage at a r xs os) ≡ and_then (form_at kind.stamp_at kind.word text room (place stage at a r)) (λ p. Ok (after (progress stage at a r xs os) p))
+  one_form_is : (stage : Stage) → Going stage → (at a r : ℕ) (xs : List (Atom S)) (os : List (Option Rule)) → form (progress stage at a r xs os) ≡ and_then (reads_form kind room stage a r text at) (λ p. Ok (after (progress stage at a r xs os) p))
   one_form_is Start g at a r xs os = refl
   one_form_is Atoms g at a r xs os = refl
   one_form_is Rules g at a r xs os = refl
@@ -142,10 +142,10 @@ module _ {S : Type 0} (kind : Notation S) (room : Counts) (text : List ℕ) wher
       let s = progress End at a r xs os in
       elim (cases_lt at (length text)) [
         | inl less ↦
-            let more : form s ≡ wrong_at at = ap (λ b. cond b (Ok s) (and_then (form_at kind.stamp_at kind.word text room (place End at a r)) (λ p. Ok (after s p)))) (ne_eqb at (length text) (λ e. omega arith)) ∙ ap (λ q. and_then q (λ p. Ok (after s p))) (form_past at a r) in
+            let more : form s ≡ wrong_at at = ap (λ b. cond b (Ok s) (and_then (reads_form kind room End a r text at) (λ p. Ok (after s p)))) (ne_eqb at (length text) (λ e. omega arith)) ∙ ap (λ q. and_then q (λ p. Ok (after s p))) (form_past at a r) in
             ap (λ t. and_then t finish) (tries_first form s n ∙ ap (λ q. and_then q (λ t. tries form t n)) more) ∙ sym (ap (closed xs os bare at) (slice_get-get_or text at 0 less))
         | inr all ↦
-            let stays : form s ≡ Ok s = ap (λ b. cond b (Ok s) (and_then (form_at kind.stamp_at kind.word text room (place End at a r)) (λ p. Ok (after s p)))) (eq-eqb at (length text) (omega arith)) in
+            let stays : form s ≡ Ok s = ap (λ b. cond b (Ok s) (and_then (reads_form kind room End a r text at) (λ p. Ok (after s p)))) (eq-eqb at (length text) (omega arith)) in
             ap (λ t. and_then t finish) (tries_stay form s stays (suc n)) ∙ sym (ap (closed xs os bare at) (slice_get_past text at all) ∙ closed_bare xs os at)
       ]
 
@@ -171,7 +171,7 @@ module _ {S : Type 0} (kind : Notation S) (room : Counts) (text : List ℕ) wher
     form_same (Ok p) i = line_same p.0 p.1 i.0 i.1
     form_same (Err e) i = refl
 
-  module _ (inside : (stage : Stage) → Going stage → (at a r : ℕ) → at ≤ length text → Inside text at (form_at kind.stamp_at kind.word text room (place stage at a r))) where
+  module _ (inside : (stage : Stage) → Going stage → (at a r : ℕ) → at ≤ length text → Inside text at (reads_form kind room stage a r text at)) where
     turns_lines : (fuel n : ℕ) → Same fuel n
     turns_lines zero n stage g at a r xs os l k m = absurd (omega arith)
     turns_lines (suc fuel) zero stage g at a r xs os l k m =
@@ -181,7 +181,7 @@ module _ {S : Type 0} (kind : Notation S) (room : Counts) (text : List ℕ) wher
     turns_lines (suc fuel) (suc n) stage g at a r xs os l k m =
         ap (λ t. and_then t finish) (tries_first form (progress stage at a r xs os) n)
         ∙ ap (λ t. and_then (and_then t (λ t. tries form t n)) finish) (one_form_is stage g at a r xs os)
-        ∙ form_same fuel n (turns_lines fuel n) stage at a r xs os k m (form_at kind.stamp_at kind.word text room (place stage at a r)) (inside stage g at a r l)
+        ∙ form_same fuel n (turns_lines fuel n) stage at a r xs os k m (reads_form kind room stage a r text at) (inside stage g at a r l)
 
     book_turns : (fuel : ℕ) → length text < fuel → book_at kind.stamp_at kind.word text room ≡ and_then (lines kind room fuel Start 0 0 text 0) (λ p. closed [] [] p.0 p.1 (slice_get text p.1))
     unfolding book_at progress_at
@@ -206,7 +206,7 @@ module _ {S : Type 0} (kind : Notation S) (room : Counts) (forms : FormsAgree ki
   pub book_whole : (text : List ℕ) (n : ℕ) → length text < n → book_at kind.stamp_at kind.word text room ≡ and_then (whole kind room n text 0) (λ p. Ok p.0)
   book_whole text n l =
       book_turns kind room text
-      (λ stage g at a r i. seen_inside (FormAt kind room stage a r) (λ line piece. form_byte kind room stage line a r kept piece) (form_at kind.stamp_at kind.word text room (record { stage = stage; next = at; atoms = a; rules = r })) text at i ((forms stage g a r).seen text at))
+      (λ stage g at a r i. seen_inside (FormAt kind room stage a r) (λ line piece. form_byte kind room stage line a r kept piece) (reads_form kind room stage a r text at) text at i ((forms stage g a r).seen text at))
       n l
       ∙ then_same (lines kind room n Start 0 0 text 0) _ _ (λ p. closed_ended p.0 p.1 (slice_get text p.1))
       ∙ sym (then_then (lines kind room n Start 0 0 text 0) (λ p. ended p.0 p.1 (slice_get text p.1)) (λ p. Ok p.0))
