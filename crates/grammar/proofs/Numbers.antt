@@ -17,15 +17,16 @@ use Rattle.grammar.specs.Agreement.{Same, Shared, Between, Seen, ShapeOnly, Read
 use Rattle.grammar.specs.Pieces.{Care, shape, kept, plain, Kept, Numeral}
 use Rattle.grammar.proofs.Places.{slice_get_front, between_join, between_none, between_one, drop_past}
 use Rattle.grammar.proofs.Keeping.{to_shape, numeral_eased}
+use Rattle.std.proofs.lemmas.Bool.Decides.{nat_tests}
 
 digit_value_is : (b : ℕ) → 48 ≤ b → b ≤ 57 → digit_value b ≡ b - 48
-digit_value_is b lo hi = rw (le-ltb b 48 lo, lt-ltb b 58 (omega arith)) refl
+digit_value_is b lo hi = grind (arith, nat_tests)
 
 -- a byte that the grammar has for a digit is one to the reader
 digit_read : (b : ℕ) → digit_value b < 10 → digit_of (Some b) ≡ Some (digit_value b)
 digit_read b h =
     let (lo, hi) = digit_from_value b h in
-    rw (le-leb 48 b lo, le-leb b 57 hi) (ap Some (sym (digit_value_is b lo hi)))
+    grind (arith, nat_tests, digit_value_is b lo hi)
 
 -- and the other way about
 digit_kept : (o : Option ℕ) (d : ℕ) → digit_of o ≡ Some d → ((b : ℕ) × (o ≡ Some b) × (digit_value b ≡ d) × (digit_value b < 10))

@@ -13,7 +13,7 @@ slice_get_front (b ∷ text) (suc at) = slice_get_front text at
 
 drop_suc : (text : List ℕ) (at b : ℕ) → slice_get text at ≡ Some b → drop at text ≡ b ∷ drop (suc at) text
 drop_suc [] at b e = absurd (grind arith)
-drop_suc (x ∷ text) zero b e = let same : x ≡ b = cc in ap (λ y. y ∷ text) same
+drop_suc (x ∷ text) zero b e = grind arith
 drop_suc (x ∷ text) (suc at) b e = drop_suc text at b e
 
 -- a byte at a place, and what follows it

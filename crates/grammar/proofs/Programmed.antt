@@ -266,7 +266,7 @@ read_refused {S} n tests text atoms rules room k e = by_book (read_as n text ato
   where
     by_book : (r : Result (Meaning S) Fault) → and_then r (λ m. checked_text n.word n.spelt tests m room) ≡ Err (Reading (Byte k)) → r ≡ Err (Reading (Byte k))
     by_book (Ok m) h = absurd (no_byte (book_fault tests m) (book_gap m) (length (written_of n m)) room (written_of n m) k h)
-    by_book (Err f) h = let same : f ≡ Reading (Byte k) = cc in ap Err same
+    by_book (Err f) h = grind arith
 
 -- a text that is not too long is refused by the reader of its word's kind
 by_order : (text : List ℕ) (T R H : Result (List ℕ) Fault) (k : ℕ) → (T ≡ Err (Reading (Byte k)) → RefusedThere ticks text k) → (R ≡ Err (Reading (Byte k)) → RefusedThere routes text k) → (H ≡ Err (Reading (Byte k)) → RefusedThere pairs text k) → by_word (word_of text) T R H (wrong_at (order_refused text)) ≡ Err (Reading (Byte k)) → RefusedByAll text k
@@ -276,7 +276,7 @@ by_order text T R H k tick route then e = by_tests (begins tick_order text) (beg
     by_tests true r h bt br bh e = refused_tick text k bt (tick e)
     by_tests false true h bt br bh e = refused_route text k br (route e)
     by_tests false false true bt br bh e = refused_then text k bh (then e)
-    by_tests false false false bt br bh e = let same : order_refused text ≡ k = cc in refused_order text k bt br bh (sym same ∙ order_place text)
+    by_tests false false false bt br bh e = refused_order text k bt br bh (grind (arith, order_place text))
 
 -- the place at which the program refuses a byte is the first at which no text goes on
 pub program_refuses_there_lem : ProgramRefusesThere

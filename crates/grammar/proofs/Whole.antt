@@ -86,7 +86,7 @@ module _ {S : Type 0} where
 
   booked_fault : (r : Result (Meaning S × ℕ) Fault) (e : Fault) → booked r ≡ Err e → r ≡ Err e
   booked_fault (Ok p) e h = absurd (grind arith)
-  booked_fault (Err d) e h = let same : d ≡ e = cc in ap Err same
+  booked_fault (Err d) e h = grind arith
 
   -- what an answer that takes all of a text has seen
   booked_seen : (G : Care → Meaning S → List ℕ → Type 0) (text : List ℕ) (m : Meaning S) (r : Result (Meaning S × ℕ) Fault) → booked r ≡ Ok m → Ends text r → Seen G r text 0 → G kept m text
