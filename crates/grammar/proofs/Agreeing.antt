@@ -12,6 +12,7 @@ use Rattle.grammar.specs.Pieces.{Care, shape, kept, plain, Kept, Exactly, Follow
 use Rattle.grammar.specs.Agreement.{AtByte, Same, Shared, Between, Seen, Reads, Agrees}
 use Rattle.grammar.proofs.Following.{word_to, word_from}
 use Rattle.grammar.proofs.Places.{slice_get_front, drop_past, between_join, between_none, between_one}
+use Rattle.std.proofs.lemmas.Bool.Decides.{nat_tests}
 
 -- whatever follows
 abbrev pub Any : List ℕ → Type 0
@@ -241,7 +242,7 @@ module _ (byte : ℕ) where
 
   -- a byte that stands at the place is passed
   pub pass_byte : (text : List ℕ) (at : ℕ) → slice_get text at ≡ Some byte → pass_at byte text at ≡ Ok (at + 1)
-  pass_byte text at e = ap (pass_if byte at) e ∙ ap (λ t. cond t (Ok (at + 1)) (wrong_at at)) (eq-eqb byte byte refl)
+  pass_byte text at e = rw e (grind (arith, nat_tests))
 
   agrees_byte : Agrees (λ text at. unsaid (pass_at byte text at)) Byted (λ _. Unit {0})
   agrees_byte =

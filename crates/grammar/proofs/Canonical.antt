@@ -12,6 +12,7 @@ use Rattle.text.specs.Spelt.{up_to, space, opening, shutting, item, list_text, t
 use Rattle.grammar.specs.Pieces.{kept, plain, Numeral, Spaced, Listed, largest}
 use Rattle.grammar.specs.Stamps.{TickSpelt, PairSpelt}
 use Rattle.grammar.proofs.Following.{followed_by, followed_unique}
+use Rattle.std.proofs.lemmas.Bool.Decides.{nat_tests}
 
 no_leading_zero : (n : ℕ) → n < 2 ^ 64 → get_or (decimal n) 0 0 ≡ 48 → length (decimal n) ≡ 1
 no_leading_zero n h e =
@@ -69,7 +70,7 @@ later (Some a) = space ++ decimal a
 
 item_later : (i : ℕ) (o : Option ℕ) → item (suc i) o ≡ later o
 item_later i None = refl
-item_later i (Some a) = ap (λ b. cond b [] space ++ decimal a) (ne_eqb (suc i) 0 (λ e. omega arith))
+item_later i (Some a) = grind (arith, nat_tests)
 
 later_text : (xs : List ℕ) → up_to (λ i. later (slice_get xs i)) (length xs) ≡ after_first xs
 unfolding up_to

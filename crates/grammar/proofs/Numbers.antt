@@ -38,11 +38,8 @@ digit_kept (Some b) d e =
           let lo = leb-true 48 b l in
           let hi = leb-true b 57 h in
           let v = digit_value_is b lo hi in
-          let f : Some (b - 48) ≡ Some d = sym (cond-true (leb 48 b && leb b 57) (Some (b - 48)) None t) ∙ e in
-          (b, refl, cc, omega arith)
-      | inr n ↦
-          let f : None ≡ Some d = sym (cond-false (leb 48 b && leb b 57) (Some (b - 48)) None n) ∙ e in
-          absurd (grind arith)
+          (b, refl, grind (arith, t), omega arith)
+      | inr n ↦ absurd (grind (arith, n))
     ]
 
 -- the digits that k turns find: k of them, or fewer, and then no digit follows
@@ -170,8 +167,7 @@ number_seen limit text at =
 no_digit : (b : ℕ) (o : Option ℕ) → digit_value b < 10 → o ≡ Some b → digit_of o ≡ None → ⊥
 no_digit b o h e n =
     let d = digit_read b h in
-    let f : digit_of o ≡ digit_of (Some b) = ap digit_of e in
-    grind arith
+    grind (arith, ap digit_of e)
 
 -- two runs of digits at one place are one, where neither goes on beyond the other's end
 same_run : (ds es r s : List ℕ) → AllDigits 10 ds → AllDigits 10 es → ds ++ r ≡ es ++ s → (length ds < length es → NoDigit r) → NoDigit s → ds ≡ es

@@ -13,6 +13,7 @@ use Rattle.grammar.specs.Pieces.{kept, plain, Listed}
 use Rattle.grammar.specs.Stamps.{RisingFrom, with_aisles, RouteSpelt}
 use Rattle.grammar.proofs.Canonical.{after_first, spaced_text, list_text_lem, list_canonical, list_unique}
 use Rattle.grammar.proofs.Keeping.{list_within}
+use Rattle.std.proofs.lemmas.Bool.Decides.{nat_tests}
 
 -- a rising list of numbers below n, and the mask of its aisles
 data Marked : ℕ → List ℕ → ℕ → Type 0 where
@@ -121,10 +122,10 @@ module _ (mask n : ℕ) where
   was_on m e = elim bit_cases [ inl z ↦ absurd (omega (arith, off z, below)) | inr o ↦ (o, omega (arith, on o)) ]
 
   not_there : bit ≡ 0 → aisle_text mask n ≡ []
-  not_there z = cond-false _ _ _ (ne_eqb bit 1 (λ e. omega arith))
+  not_there z = grind (arith, nat_tests)
 
   there : bit ≡ 1 → aisle_text mask n ≡ cond (eqb (mask % 2 ^ n) 0) [] space ++ decimal n
-  there o = cond-true _ _ _ (eq-eqb bit 1 o)
+  there o = grind (arith, nat_tests)
 
 marked_text : {n : ℕ} {ks : List ℕ} {m : ℕ} → Marked n ks m → (mask : ℕ) → mask % 2 ^ n ≡ m → up_to (aisle_text mask) n ≡ spaced_text ks
 unfolding up_to
