@@ -229,10 +229,10 @@ module _ (byte : ℕ) where
   seen_at text at (Some b) e =
       elim (cases_eq b byte) [
         | inl same ↦
-            let answer : unsaid (pass_if byte at (Some b)) ≡ Ok (tt, at + 1) = ap (λ t. unsaid (cond t (Ok (at + 1)) (wrong_at at))) (eq-eqb b byte same) in
-            subst (λ r. Seen Byted r text at) (sym answer) (byte ∷ [], between_one text at byte (e ∙ ap Some same), refl)
+            let answer : unsaid (pass_if byte at (Some b)) ≡ Ok (tt, at + 1) = grind (arith, nat_tests) in
+            subst (λ r. Seen Byted r text at) (sym answer) (byte ∷ [], between_one text at byte (grind arith), refl)
         | inr apart ↦
-            let answer : unsaid (pass_if byte at (Some b)) ≡ wrong_at at = ap (λ t. unsaid (cond t (Ok (at + 1)) (wrong_at at))) (ne_eqb b byte apart) in
+            let answer : unsaid (pass_if byte at (Some b)) ≡ wrong_at at = grind (arith, nat_tests) in
             subst (λ r. Seen Byted r text at) (sym answer) ([], byte ∷ [], tt, between_none text at, refl)
       ]
 

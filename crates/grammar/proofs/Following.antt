@@ -1,5 +1,5 @@
 -- One piece and then another: laws of what follows what.
-use Rattle.std.proofs.Common.{◌≡◌, ℕ, List, [], ◌∷◌, ◌++◌, Some, sym, refl, ap, ◌∙◌, subst}
+use Rattle.std.proofs.Common.{◌≡◌, ℕ, List, [], ◌∷◌, ◌++◌, Some, sym, refl, ap, ◌∙◌, subst, arith}
 use Rattle.std.proofs.lemmas.List.{append_assoc, append-nil}
 use Rattle.std.specs.List.{slice_get}
 use Rattle.grammar.specs.Pieces.{Exactly, Followed}
@@ -32,7 +32,7 @@ regroup A B C text f =
     record {
       front = f.front ++ g.front;
       back = g.back;
-      whole = f.whole ∙ ap (λ t. f.front ++ t) g.whole ∙ sym (append_assoc f.front g.front g.back);
+      whole = grind (arith, f.whole, g.whole, append_assoc);
       first = record { front = f.front; back = g.front; whole = refl; first = f.first; second = g.first };
       second = g.second;
     }
@@ -44,7 +44,7 @@ ungroup A B C text f =
     record {
       front = g.front;
       back = g.back ++ f.back;
-      whole = f.whole ∙ ap (λ t. t ++ f.back) g.whole ∙ append_assoc g.front g.back f.back;
+      whole = grind (arith, f.whole, g.whole, append_assoc);
       first = g.first;
       second = record { front = g.back; back = f.back; whole = refl; first = g.second; second = f.second };
     }

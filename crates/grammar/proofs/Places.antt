@@ -18,7 +18,7 @@ drop_suc (x ∷ text) (suc at) b e = drop_suc text at b e
 
 -- a byte at a place, and what follows it
 pub drop_step : (text : List ℕ) (at b : ℕ) → slice_get text at ≡ Some b → drop at text ≡ b ∷ drop (at + 1) text
-drop_step text at b e = drop_suc text at b e ∙ ap (λ n. b ∷ drop n text) (sym (add-one at))
+drop_step text at b e = rw add-one (drop_suc text at b e)
 
 -- past a piece stands what follows it
 pub drop_past : (text : List ℕ) (at : ℕ) (piece rest : List ℕ) → drop at text ≡ piece ++ rest → drop (at + length piece) text ≡ rest

@@ -30,7 +30,7 @@ agreed (b ∷ word) [] = 0
 agreed (b ∷ word) (c ∷ text) = cond (eqb c b) (suc (agreed word text)) 0
 
 agreed_step : (b : ℕ) (word text : List ℕ) (at : ℕ) → agreed (b ∷ word) (drop at text) ≡ cond (is_byte b (slice_get text at)) (suc (agreed word (drop (at + 1) text))) 0
-agreed_step b word text at = by_suc text at ∙ ap (λ n. cond (is_byte b (slice_get text at)) (suc (agreed word (drop n text))) 0) (sym (add-one at))
+agreed_step b word text at = rw add-one (by_suc text at)
   where
     by_suc : (text : List ℕ) (at : ℕ) → agreed (b ∷ word) (drop at text) ≡ cond (is_byte b (slice_get text at)) (suc (agreed word (drop (suc at) text))) 0
     by_suc [] zero = refl

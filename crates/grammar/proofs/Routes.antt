@@ -5,7 +5,7 @@ use lib.Bits.{bit_or, or_shifted_r}
 use Rattle.std.proofs.lemmas.Nat.{pow_pos, mod-pow-add, mod_below}
 use Rattle.std.proofs.ByRecursion.{All-push, All-weaker}
 use Rattle.std.proofs.lemmas.List.{append_assoc, append-nil}
-use Rattle.std.proofs.lemmas.Bool.{cases_eq, eq-eqb, ne_eqb, cond-true, cond-false}
+use Rattle.std.proofs.lemmas.Bool.{cases_eq, ne_eqb, cond-false}
 use Rattle.std.specs.List.{AllByRecursion}
 use Rattle.stamps.specs.declared.route.Route.{Route}
 use Rattle.text.specs.Spelt.{up_to, space, opening, shutting, list_text, aisle_text, route_text}

@@ -86,15 +86,15 @@ closed xs os m at None = Ok (record { atoms = xs ++ m.atoms; rules = os ++ m.rul
 closed xs os m at (Some b) = wrong_at at
 
 closed_atom : {S : Type 0} (xs : List (Atom S)) (os : List (Option Rule)) (x : Atom S) (m : Meaning S) (at : ℕ) (o : Option ℕ) → closed (xs ++ (x ∷ [])) os m at o ≡ closed xs os (with_atom x m) at o
-closed_atom xs os x m at None = ap (λ t. Ok (record { atoms = t; rules = os ++ m.rules })) (append_assoc xs (x ∷ []) m.atoms)
+closed_atom xs os x m at None = rw append_assoc refl
 closed_atom xs os x m at (Some b) = refl
 
 closed_rule : {S : Type 0} (xs : List (Atom S)) (os : List (Option Rule)) (o : Option Rule) (m : Meaning S) (at : ℕ) (b : Option ℕ) → closed xs (os ++ (o ∷ [])) m at b ≡ closed xs os (with_rule o m) at b
-closed_rule xs os o m at None = ap (λ t. Ok (record { atoms = xs ++ m.atoms; rules = t })) (append_assoc os (o ∷ []) m.rules)
+closed_rule xs os o m at None = rw append_assoc refl
 closed_rule xs os o m at (Some b) = refl
 
 closed_bare : {S : Type 0} (xs : List (Atom S)) (os : List (Option Rule)) (at : ℕ) → closed xs os bare at None ≡ Ok (record { atoms = xs; rules = os })
-closed_bare xs os at = ap (λ t. Ok (record { atoms = t; rules = os ++ [] })) (append-nil xs) ∙ ap (λ t. Ok (record { atoms = xs; rules = t })) (append-nil os)
+closed_bare xs os at = rw (append-nil xs, append-nil os) refl
 
 module _ {S : Type 0} (kind : Notation S) (room : Counts) (text : List ℕ) where
   abbrev place : Stage → ℕ → ℕ → ℕ → Reader
