@@ -277,6 +277,6 @@ word_then [] K G Stop a =
     (λ c y piece f. subst (G c y) (sym (f.whole ∙ ap (λ t. t ++ f.back) f.first)) f.second)
     a
 word_then (b ∷ word) K G Stop a =
-    agrees_as _ _ _ Stop (λ c y piece. word_to b word (G c y) piece) (λ c y piece. word_from b word (G c y) piece)
+    agrees_as _ _ _ Stop (λ c y piece. word_to b word) (λ c y piece. word_from b word)
     (agrees_same _ _ _ Stop (λ text at. sym (then_then (pass_at b text at) (pass_word word text) (K text)))
     (byte_then b (λ text at. and_then (pass_word word text at) (K text)) (λ c y. Followed (Exactly word) (G c y)) Stop (word_then word K G Stop a)))

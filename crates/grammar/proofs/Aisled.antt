@@ -124,7 +124,7 @@ route_agrees =
   where
     to : (c : Care) (r : Route) (text : List ℕ) → Via Aisling Routed c r text → RouteSpelt c r text
     to c r text v =
-        let b = ended (λ p. Aisling c v.value p) (r ≡ route v.value) text v.parts in
+        let b = ended v.parts in
         let ks = b.numbers in
         let mask : r.aisles ≡ with_aisles 0 ks = ap (λ (x : Route). x.aisles) v.parts.second.0 ∙ ap (λ (x : State). x.0) b.means ∙ adds_mask (0, 0) ks in
         record {
@@ -147,4 +147,4 @@ route_agrees =
           passes = kept_map c (λ h. passes (0, 0) ks h.0 h.1) (kept_both (AllByRecursion (λ k. k ≤ 63) ks) (RisingFrom 0 ks) c low s.rising);
           means = refl;
         } in
-        record { value = t; parts = unended (λ p. Aisling c t p) (r ≡ route t) text same b }
+        record { value = t; parts = unended same b }

@@ -24,7 +24,7 @@ use Rattle.grammar.proofs.Keeping.{kept_map}
 
 -- where a piece begins with a byte that is no digit
 pub starts : (b : ℕ) (word : List ℕ) (A : List ℕ → Type 0) (piece rest : List ℕ) → digit_of (Some b) ≡ None → Followed (Exactly (b ∷ word)) A piece → NoDigit (piece ++ rest)
-starts b word A piece rest e f = ap digit_of (first_of _ _ _ piece rest f) ∙ e
+starts b word A piece rest e f = ap digit_of (first_of rest f) ∙ e
 
 module _ (S : Type 0) (room : Counts) (atoms rules : ℕ) where
   -- the end of a form that says this
@@ -48,15 +48,15 @@ module _ (S : Type 0) (room : Counts) (atoms rules : ℕ) where
   rule_to c y text (k, f) =
       let v = f.second in
       let g = v.parts in
-      (v.value, g.second.second.0, kept_map c (leb-false room.rules rules) k, onto f (onto g (ended (Exactly closing) (y ≡ rule_line (Some v.value)) g.back g.second)))
+      (v.value, g.second.second.0, kept_map c (leb-false room.rules rules) k, onto f (onto g (ended g.second)))
 
   rule_from : (c : Care) (y : Line S) (text : List ℕ) → RuleRest c y text → Kept c (leb room.rules rules ≡ false) × Followed (Numbered c rules) (RuleSaid c y) text
   rule_from c y text (r, e, k, f) =
       let g = f.second in
-      (kept_map c (lt-leb room.rules rules) k, onto f (record { value = r; parts = onto g (unended (Exactly closing) (y ≡ rule_line (Some r)) g.back e g.second) }))
+      (kept_map c (lt-leb room.rules rules) k, onto f (record { value = r; parts = onto g (unended e g.second) }))
 
   said_stops : (c : Care) (y : Line S) (piece rest : List ℕ) → RuleSaid c y piece → NoDigit (piece ++ rest)
-  said_stops c y piece rest v = ap digit_of (first_of _ _ _ piece rest (ungroup _ _ _ piece v.parts))
+  said_stops c y piece rest v = ap digit_of (first_of rest (ungroup v.parts))
 
   -- a rule agrees, from its number on
   pub rule_rest_agrees : (at : ℕ) → Agrees (rule_rest S room atoms rules at) RuleRest Any
@@ -74,11 +74,11 @@ module _ (S : Type 0) (room : Counts) (atoms rules : ℕ) where
 
   void_to : (c : Care) (y : Line S) (text : List ℕ) → Kept c (leb room.rules rules ≡ false) × Followed (Numbered c rules) (Closed (rule_line None) c y) text → VoidRest c y text
   void_to c y text (k, f) =
-      (f.second.second.0, kept_map c (leb-false room.rules rules) k, onto f (ended (Exactly closing) (y ≡ rule_line None) f.back f.second))
+      (f.second.second.0, kept_map c (leb-false room.rules rules) k, onto f (ended f.second))
 
   void_from : (c : Care) (y : Line S) (text : List ℕ) → VoidRest c y text → Kept c (leb room.rules rules ≡ false) × Followed (Numbered c rules) (Closed (rule_line None) c y) text
   void_from c y text (e, k, f) =
-      (kept_map c (lt-leb room.rules rules) k, onto f (unended (Exactly closing) (y ≡ rule_line None) f.back e f.second))
+      (kept_map c (lt-leb room.rules rules) k, onto f (unended e f.second))
 
   -- a vacant number agrees, from its number on
   pub void_rest_agrees : (at : ℕ) → Agrees (void_rest S room atoms rules at) VoidRest Any
@@ -101,11 +101,11 @@ module _ (S : Type 0) (room : Counts) (atoms rules : ℕ) where
     where
       to : (c : Care) (y : Line S) (text : List ℕ) → Followed (Exactly end_word) (Followed (Exactly (10 ∷ [])) (λ p. (y ≡ end_line) × (p ≡ []))) text → EndRest c y text
       to c y text f =
-          (f.second.second.0, f.whole ∙ ap (λ t. t ++ f.back) f.first ∙ ap (λ t. end_word ++ t) (ended (Exactly (10 ∷ [])) (y ≡ end_line) f.back f.second))
+          (f.second.second.0, f.whole ∙ ap (λ t. t ++ f.back) f.first ∙ ap (λ t. end_word ++ t) (ended f.second))
 
       from : (c : Care) (y : Line S) (text : List ℕ) → EndRest c y text → Followed (Exactly end_word) (Followed (Exactly (10 ∷ [])) (λ p. (y ≡ end_line) × (p ≡ []))) text
       from c y text (e, t) =
-          record { front = end_word; back = 10 ∷ []; whole = t; first = refl; second = unended (Exactly (10 ∷ [])) (y ≡ end_line) (10 ∷ []) e refl }
+          record { front = end_word; back = 10 ∷ []; whole = t; first = refl; second = unended e refl }
 
   -- an atom, from its number on
   module _ (stamp_at : List ℕ → ℕ → Result (S × ℕ) Fault) (spells : Care → S → List ℕ → Type 0) (stamps : Agrees stamp_at spells NoDigit) where
@@ -135,12 +135,12 @@ module _ (S : Type 0) (room : Counts) (atoms rules : ℕ) where
 
     -- a space and the kind's word
     kind_to : (A : List ℕ → Type 0) (k : Bool) (piece : List ℕ) → Followed (Exactly (32 ∷ [])) (Followed (Exactly (cond k in_word out_word)) A) piece → Followed (Exactly (kind_text k)) A piece
-    kind_to A true piece f = word_to 32 in_word A piece f
-    kind_to A false piece f = word_to 32 out_word A piece f
+    kind_to A true piece f = word_to 32 in_word f
+    kind_to A false piece f = word_to 32 out_word f
 
     kind_from : (A : List ℕ → Type 0) (k : Bool) (piece : List ℕ) → Followed (Exactly (kind_text k)) A piece → Followed (Exactly (32 ∷ [])) (Followed (Exactly (cond k in_word out_word)) A) piece
-    kind_from A true piece f = word_from 32 in_word A piece f
-    kind_from A false piece f = word_from 32 out_word A piece f
+    kind_from A true piece f = word_from 32 in_word f
+    kind_from A false piece f = word_from 32 out_word f
 
     atom_to : (c : Care) (y : Line S) (text : List ℕ) → Kept c (leb room.atoms atoms ≡ false) × Followed (Numbered c atoms) (AtomSaid c y) text → AtomRest c y text
     atom_to c y text (k, f) =
@@ -149,7 +149,7 @@ module _ (S : Type 0) (room : Counts) (atoms rules : ℕ) where
         let w = v.parts.second in
         let h = w.parts in
         let a : Atom S = record { stamp = w.value; reading = v.value } in
-        let stamp : Followed (spells c w.value) (Exactly closing) v.parts.back = onto h (ended (Exactly closing) (y ≡ atom_line a) h.back h.second) in
+        let stamp : Followed (spells c w.value) (Exactly closing) v.parts.back = onto h (ended h.second) in
         let kind : Followed (Exactly (cond v.value in_word out_word)) (Followed (spells c w.value) (Exactly closing)) g.back = onto v.parts stamp in
         let spaced = kind_to (Followed (spells c w.value) (Exactly closing)) v.value f.back (onto g kind) in
         (a, h.second.second.0, kept_map c (leb-false room.atoms atoms) k, onto f spaced)
@@ -159,7 +159,7 @@ module _ (S : Type 0) (room : Counts) (atoms rules : ℕ) where
         let g = kind_from (Followed (spells c a.stamp) (Exactly closing)) a.reading f.back f.second in
         let h = g.second in
         let i = h.second in
-        let stamp : Stamped a.reading c y h.back = record { value = a.stamp; parts = onto i (unended (Exactly closing) (y ≡ atom_line a) i.back e i.second) } in
+        let stamp : Stamped a.reading c y h.back = record { value = a.stamp; parts = onto i (unended e i.second) } in
         let kind : Via Kinded Stamped c y g.back = record { value = a.reading; parts = onto h stamp } in
         (kept_map c (lt-leb room.atoms atoms) k, onto f (onto g kind))
 

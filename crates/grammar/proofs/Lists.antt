@@ -148,11 +148,11 @@ module _ {A : Type 0} (w : Walk A) where
       let tail = on.second in
       let spaced = Spaced c w.limit (tail.head ∷ tail.rest) in
       let inner : Followed (Exactly (32 ∷ [])) (Followed spaced (Exactly (41 ∷ []))) f.back = onto on tail.parts in
-      let outer : Followed (Numbers c v) (Followed (Followed (Exactly (32 ∷ [])) spaced) (Exactly (41 ∷ []))) text = onto f (regroup (Exactly (32 ∷ [])) spaced (Exactly (41 ∷ [])) f.back inner) in
+      let outer : Followed (Numbers c v) (Followed (Followed (Exactly (32 ∷ [])) spaced) (Exactly (41 ∷ []))) text = onto f (regroup inner) in
       record {
         head = v;
         rest = tail.head ∷ tail.rest;
-        parts = regroup (Numbers c v) (Followed (Exactly (32 ∷ [])) spaced) (Exactly (41 ∷ [])) text outer;
+        parts = regroup outer;
         passes = kept_three (w.first s v ≡ false) (w.second s v ≡ false) (Passes (w.add s v) (tail.head ∷ tail.rest)) c f.second.0 f.second.1.0 tail.passes;
         means = tail.means;
       }
@@ -160,7 +160,7 @@ module _ {A : Type 0} (w : Walk A) where
       record {
         head = v;
         rest = [];
-        parts = onto f (ended (Exactly (41 ∷ [])) (t ≡ w.add s v) f.back on);
+        parts = onto f (ended on);
         passes = kept_three (w.first s v ≡ false) (w.second s v ≡ false) (Unit {0}) c f.second.0 f.second.1.0 (kept_fact (Unit {0}) c tt);
         means = on.second.0;
       }
@@ -173,10 +173,10 @@ module _ {A : Type 0} (w : Walk A) where
     where
       from_tail : (c : Care) (s t : A) (text : List ℕ) (v : ℕ) (vs : List ℕ) → Followed (Spaced c w.limit (v ∷ vs)) (Exactly (41 ∷ [])) text → Kept c (Passes s (v ∷ vs)) → t ≡ adds s (v ∷ vs) → Via Numbers (Tested s) c t text
       from_tail c s t text v [] f k e =
-          record { value = v; parts = onto f (kept_map c (λ p. p.0) k, (kept_map c (λ p. p.1) k, inr (unended (Exactly (41 ∷ [])) (t ≡ w.add s v) f.back e f.second))) }
+          record { value = v; parts = onto f (kept_map c (λ p. p.0) k, (kept_map c (λ p. p.1) k, inr (unended e f.second))) }
       from_tail c s t text v (u ∷ us) f k e =
-          let g = ungroup (Numbers c v) (Followed (Exactly (32 ∷ [])) (Spaced c w.limit (u ∷ us))) (Exactly (41 ∷ [])) text f in
-          let h = ungroup (Exactly (32 ∷ [])) (Spaced c w.limit (u ∷ us)) (Exactly (41 ∷ [])) g.back g.second in
+          let g = ungroup f in
+          let h = ungroup g.second in
           let tail : Tail c (w.add s v) t h.back = record { head = u; rest = us; parts = h.second; passes = kept_map c (λ p. p.2) k; means = e } in
           record { value = v; parts = onto g (kept_map c (λ p. p.0) k, (kept_map c (λ p. p.1) k, inl (onto h tail))) }
 
@@ -185,25 +185,25 @@ module _ {A : Type 0} (w : Walk A) where
       record {
         head = tail.head;
         rest = tail.rest;
-        parts = followed_map _ _ _ _ text (spaced_eased (to_shape c) w.limit (tail.head ∷ tail.rest)) (λ p e. e) tail.parts;
+        parts = followed_map (spaced_eased (to_shape c) w.limit (tail.head ∷ tail.rest)) (λ p e. e) tail.parts;
         passes = tt;
         means = tail.means;
       }
 
   onward_shaped : (c : Care) (s t : A) (piece : List ℕ) → Onward s c t piece → Onward s shape t piece
-  onward_shaped c s t piece (inl f) = inl (followed_map _ _ _ _ piece (λ p e. e) (tail_shaped c s t) f)
+  onward_shaped c s t piece (inl f) = inl (followed_map (λ p e. e) (tail_shaped c s t) f)
   onward_shaped c s t piece (inr f) = inr f
 
   tested_shaped : (s : A) (v : ℕ) (c : Care) (t : A) (piece : List ℕ) → Tested s v c t piece → Tested s v shape t piece
   tested_shaped s v c t piece (k, (l, on)) = (tt, (tt, onward_shaped c (w.add s v) t piece on))
 
   tested_sample : (s : A) (v : ℕ) → ((t : A) × (piece : List ℕ) × Tested s v shape t piece)
-  tested_sample s v = (w.add s v, 41 ∷ [], (tt, (tt, inr (unended (Exactly (41 ∷ [])) (w.add s v ≡ w.add s v) (41 ∷ []) refl refl))))
+  tested_sample s v = (w.add s v, 41 ∷ [], (tt, (tt, inr (unended refl refl))))
 
   -- a space or a bracket is no digit
   tested_stops : (c : Care) (s : A) (v : ℕ) (t : A) (piece rest : List ℕ) → Tested s v c t piece → NoDigit (piece ++ rest)
-  tested_stops c s v t piece rest (k, (l, inl f)) = ap digit_of (first_of _ _ _ piece rest f)
-  tested_stops c s v t piece rest (k, (l, inr f)) = ap digit_of (first_of _ _ _ piece rest f)
+  tested_stops c s v t piece rest (k, (l, inl f)) = ap digit_of (first_of rest f)
+  tested_stops c s v t piece rest (k, (l, inr f)) = ap digit_of (first_of rest f)
 
   -- a whole list of numbers, none of which is refused
   pub record Bracketed (c : Care) (s t : A) (text : List ℕ) : Type 0 where
@@ -221,7 +221,7 @@ module _ {A : Type 0} (w : Walk A) where
     where
       by_open : Open s c t f.back → Bracketed c s t text
       by_open (inl g) =
-          let inner : Followed (Exactly []) (Exactly (41 ∷ [])) f.back = record { front = []; back = f.back; whole = refl; first = refl; second = ended (Exactly (41 ∷ [])) (t ≡ s) f.back g } in
+          let inner : Followed (Exactly []) (Exactly (41 ∷ [])) f.back = record { front = []; back = f.back; whole = refl; first = refl; second = ended g } in
           record { numbers = []; spelt = onto f inner; passes = kept_fact (Unit {0}) c tt; means = g.second.0 }
       by_open (inr tail) =
           record { numbers = tail.head ∷ tail.rest; spelt = onto f tail.parts; passes = tail.passes; means = tail.means }
@@ -233,7 +233,7 @@ module _ {A : Type 0} (w : Walk A) where
       by_numbers [] f k e =
           let g = f.second in
           let close : f.back ≡ 41 ∷ [] = g.whole ∙ ap (λ p. p ++ g.back) g.first ∙ g.second in
-          onto f (inl (unended (Exactly (41 ∷ [])) (t ≡ s) f.back e close))
+          onto f (inl (unended e close))
       by_numbers (n ∷ ns) f k e =
           onto f (inr (record { head = n; rest = ns; parts = f.second; passes = k; means = e }))
 
@@ -250,8 +250,8 @@ module _ {A : Type 0} (w : Walk A) where
         agrees_choice 32 (λ text at. and_then (pass_at 32 text at) (next text)) (λ text at. and_then (pass_at 41 text at) (λ m. Ok (s, m))) _ _ Any
         (byte_then 32 next (λ c t. Tail c s t) Any a)
         (byte_then 41 (λ text at. Ok (s, at)) (λ c t p. (t ≡ s) × (p ≡ [])) Any (agrees_done s Any))
-        (λ c t piece rest f. ap (is_byte 32) (first_of _ _ _ piece rest f))
-        (λ c t piece rest f. ap (is_byte 32) (first_of _ _ _ piece rest f))
+        (λ c t piece rest f. ap (is_byte 32) (first_of rest f))
+        (λ c t piece rest f. ap (is_byte 32) (first_of rest f))
 
     -- where one of the tests refuses the number, no piece keeps the rules
     refused_agrees : (next : List ℕ → ℕ → Result (A × ℕ) Fault) (at : ℕ) (s : A) (v : ℕ) → (w.first s v ≡ true) ⊎ (w.second s v ≡ true) → Agrees (tested next at s v) (Tested s v) Any
@@ -292,5 +292,5 @@ module _ {A : Type 0} (w : Walk A) where
         (agrees_choice 41 (λ text at. and_then (pass_at 41 text at) (λ k. Ok (s, k))) (run (suc n) s) _ _ Any
         (byte_then 41 (λ text at. Ok (s, at)) (λ c t p. (t ≡ s) × (p ≡ [])) Any (agrees_done s Any))
         (run_agrees n s h)
-        (λ c t piece rest f. ap (is_byte 41) (first_of _ _ _ piece rest f))
+        (λ c t piece rest f. ap (is_byte 41) (first_of rest f))
         (λ c t piece rest tail. tail_no_bracket c s t piece rest tail)))

@@ -30,25 +30,25 @@ Closing c atoms r =
 
 parts_open : (c : Care) (atoms : ℕ) (r : Rule) (text : List ℕ) → Followed (Parts c atoms r) (Exactly closing) text → Closing c atoms r text
 parts_open c atoms r text h =
-    under _ _ _ text (λ t g.
-    under _ _ _ t (λ u i.
-    under _ _ _ u (λ v j.
-    under _ _ _ v (λ w k. ungroup (Exactly space) (Body c atoms r.negatives) (Exactly closing) w k)
-    (ungroup (Body c atoms r.positives) (Followed (Exactly space) (Body c atoms r.negatives)) (Exactly closing) v j))
-    (ungroup (Exactly space) (Followed (Body c atoms r.positives) (Followed (Exactly space) (Body c atoms r.negatives))) (Exactly closing) u i))
-    (ungroup (Declared c atoms r.head) (Followed (Exactly space) (Followed (Body c atoms r.positives) (Followed (Exactly space) (Body c atoms r.negatives)))) (Exactly closing) t g))
-    (ungroup (Exactly space) (Followed (Declared c atoms r.head) (Followed (Exactly space) (Followed (Body c atoms r.positives) (Followed (Exactly space) (Body c atoms r.negatives))))) (Exactly closing) text h)
+    under (λ t g.
+    under (λ u i.
+    under (λ v j.
+    under (λ w k. ungroup k)
+    (ungroup j))
+    (ungroup i))
+    (ungroup g))
+    (ungroup h)
 
 parts_shut : (c : Care) (atoms : ℕ) (r : Rule) (text : List ℕ) → Closing c atoms r text → Followed (Parts c atoms r) (Exactly closing) text
 parts_shut c atoms r text h =
-    regroup (Exactly space) (Followed (Declared c atoms r.head) (Followed (Exactly space) (Followed (Body c atoms r.positives) (Followed (Exactly space) (Body c atoms r.negatives))))) (Exactly closing) text
-    (under _ _ _ text (λ t g.
-    regroup (Declared c atoms r.head) (Followed (Exactly space) (Followed (Body c atoms r.positives) (Followed (Exactly space) (Body c atoms r.negatives)))) (Exactly closing) t
-    (under _ _ _ t (λ u i.
-    regroup (Exactly space) (Followed (Body c atoms r.positives) (Followed (Exactly space) (Body c atoms r.negatives))) (Exactly closing) u
-    (under _ _ _ u (λ v j.
-    regroup (Body c atoms r.positives) (Followed (Exactly space) (Body c atoms r.negatives)) (Exactly closing) v
-    (under _ _ _ v (λ w k. regroup (Exactly space) (Body c atoms r.negatives) (Exactly closing) w k) j)) i)) g)) h)
+    regroup
+    (under (λ t g.
+    regroup
+    (under (λ u i.
+    regroup
+    (under (λ v j.
+    regroup
+    (under (λ w k. regroup k) j)) i)) g)) h)
 
 module _ {S : Type 0} (kind : Notation S) (room : Counts) (stamps : Agrees kind.stamp_at kind.spells NoDigit) (atoms rules : ℕ) where
   abbrev RuleAfter : Care → Line S → List ℕ → Type 0
@@ -77,23 +77,23 @@ module _ {S : Type 0} (kind : Notation S) (room : Counts) (stamps : Agrees kind.
       (agrees_choice 118 (after_void kind room atoms rules at) (after_end kind room atoms rules) VoidAfter EndAfter Any
       (word_then void_word (void_rest S room atoms rules at) (VoidRest S room atoms rules) Any (void_rest_agrees S room atoms rules at))
       (end_rest_agrees S room atoms rules)
-      (λ c y piece more f. ap (is_byte 118) (first_of _ _ _ piece more f))
+      (λ c y piece more f. ap (is_byte 118) (first_of more f))
       (λ c y piece more e. ap (λ t. is_byte 118 (slice_get (t ++ more) 0)) e.1))
-      (λ c y piece more f. ap (is_byte 114) (first_of _ _ _ piece more f))
+      (λ c y piece more f. ap (is_byte 114) (first_of more f))
       no_rule
     where
       no_rule : (c : Care) (y : Line S) (piece more : List ℕ) → VoidAfter c y piece ⊎ EndAfter c y piece → is_byte 114 (slice_get (piece ++ more) 0) ≡ is_byte 114 (Some 118)
-      no_rule c y piece more (inl f) = ap (is_byte 114) (first_of _ _ _ piece more f)
+      no_rule c y piece more (inl f) = ap (is_byte 114) (first_of more f)
       no_rule c y piece more (inr e) = ap (λ t. is_byte 114 (slice_get (t ++ more) 0)) e.1
 
   -- a bracket and then a form's word are its opening
   opened : (rest : List ℕ) (A B : List ℕ → Type 0) (text : List ℕ) (f : Followed (Exactly (40 ∷ [])) A text) → Followed (Exactly rest) B f.back → Followed (Exactly (40 ∷ rest)) B text
-  opened rest A B text f g = word_to 40 rest B text (onto f g)
+  opened rest A B text f g = word_to 40 rest (onto f g)
 
   late_to : (c : Care) (y : Line S) (text : List ℕ) (A : List ℕ → Type 0) (f : Followed (Exactly (40 ∷ [])) A text) → Late c y f.back → LateForm kind room atoms rules c y text
   late_to c y text A f (inl g) =
       let (r, e, k, h) = g.second in
-      let body = under (Numbered c rules) (Followed (Parts c atoms r) (Exactly closing)) (Closing c atoms r) g.back (parts_open c atoms r) h in
+      let body = under (parts_open c atoms r) h in
       let whole : Followed (Exactly rule_opening) (Followed (Numbered c rules) (Closing c atoms r)) text = opened rule_word A (Followed (Numbered c rules) (Closing c atoms r)) text f (onto g body) in
       subst (λ x. LateForm kind room atoms rules c x text) (sym e) (k, whole)
   late_to c y text A f (inr (inl g)) =
@@ -108,13 +108,13 @@ module _ {S : Type 0} (kind : Notation S) (room : Counts) (stamps : Agrees kind.
   late_from c order_line text h = absurd h
   late_from c (atom_line a) text h = absurd h
   late_from c (rule_line None) text h =
-      let f = word_from 40 void_word (Followed (Numbered c rules) (Exactly closing)) text h.1 in
+      let f = word_from 40 void_word h.1 in
       let g = f.second in
       onto f (inr (inl (onto g (refl, h.0, g.second))))
   late_from c (rule_line (Some r)) text h =
-      let f = word_from 40 rule_word (Followed (Numbered c rules) (Closing c atoms r)) text h.1 in
+      let f = word_from 40 rule_word h.1 in
       let g = f.second in
-      let body = under (Numbered c rules) (Closing c atoms r) (Followed (Parts c atoms r) (Exactly closing)) g.back (parts_shut c atoms r) g.second in
+      let body = under (parts_shut c atoms r) g.second in
       onto f (inl (onto g (r, refl, h.0, body)))
   late_from c end_line text h =
       record { front = 40 ∷ []; back = codes "end)\n"; whole = h; first = refl; second = inr (inr (refl, refl)) }
@@ -135,12 +135,12 @@ module _ {S : Type 0} (kind : Notation S) (room : Counts) (stamps : Agrees kind.
       agrees_choice 97 (after_atom kind room atoms rules at) (late_reader at) AtomAfter Late Any
       (word_then atom_word (atom_rest S room atoms rules kind.stamp_at at) (AtomRest S room atoms rules kind.stamp_at kind.spells stamps) Any (atom_rest_agrees S room atoms rules kind.stamp_at kind.spells stamps at))
       (late_agrees at)
-      (λ c y piece more f. ap (is_byte 97) (first_of _ _ _ piece more f))
+      (λ c y piece more f. ap (is_byte 97) (first_of more f))
       no_atom_lem
     where
       no_atom_lem : (c : Care) (y : Line S) (piece more : List ℕ) → Late c y piece → is_byte 97 (slice_get (piece ++ more) 0) ≡ is_byte 97 (Some 114)
-      no_atom_lem c y piece more (inl f) = ap (is_byte 97) (first_of _ _ _ piece more f)
-      no_atom_lem c y piece more (inr (inl f)) = ap (is_byte 97) (first_of _ _ _ piece more f)
+      no_atom_lem c y piece more (inl f) = ap (is_byte 97) (first_of more f)
+      no_atom_lem c y piece more (inr (inl f)) = ap (is_byte 97) (first_of more f)
       no_atom_lem c y piece more (inr (inr e)) = ap (λ t. is_byte 97 (slice_get (t ++ more) 0)) e.1
 
   -- what is allowed among rules is allowed among atoms
@@ -163,11 +163,11 @@ module _ {S : Type 0} (kind : Notation S) (room : Counts) (stamps : Agrees kind.
   early_from : (c : Care) (y : Line S) (text : List ℕ) → FormAt kind room Atoms atoms rules c y text → Followed (Exactly (40 ∷ [])) (Early c y) text
   early_from c order_line text h = absurd h
   early_from c (atom_line a) text h =
-      let f = word_from 40 atom_word (AtomTail c a) text h.1 in
+      let f = word_from 40 atom_word h.1 in
       let g = f.second in
       onto f (inl (onto g (a, refl, h.0, g.second)))
-  early_from c (rule_line r) text h = under (Exactly (40 ∷ [])) (Late c (rule_line r)) (Early c (rule_line r)) text (λ t l. inr l) (late_from c (rule_line r) text h)
-  early_from c end_line text h = under (Exactly (40 ∷ [])) (Late c end_line) (Early c end_line) text (λ t l. inr l) (late_from c end_line text h)
+  early_from c (rule_line r) text h = under (λ t l. inr l) (late_from c (rule_line r) text h)
+  early_from c end_line text h = under (λ t l. inr l) (late_from c end_line text h)
 
   atoms_agree : Agrees (reads_form kind room Atoms atoms rules) (FormAt kind room Atoms atoms rules) Any
   unfolding late_reader
@@ -183,11 +183,11 @@ module _ {S : Type 0} (kind : Notation S) (room : Counts) (stamps : Agrees kind.
   order_to : (c : Care) (y : Line S) (text : List ℕ) → Ordered c y text → FormAt kind room Start atoms rules c y text
   order_to c y text f =
       let g = f.second in
-      let whole : OrderForm kind.word text = under (Exactly order_opening) _ _ text (λ t h. under (Exactly kind.word) _ _ t (λ u i. ended (Exactly closing) (y ≡ order_line) u i) h) f in
+      let whole : OrderForm kind.word text = under (λ t h. under (λ u i. ended i) h) f in
       subst (λ x. FormAt kind room Start atoms rules c x text) (sym g.second.second.0) whole
 
   order_from : (c : Care) (y : Line S) (text : List ℕ) → FormAt kind room Start atoms rules c y text → Ordered c y text
-  order_from c order_line text h = under (Exactly order_opening) _ _ text (λ t g. under (Exactly kind.word) _ _ t (λ u i. unended (Exactly closing) (order_line ≡ order_line) u refl i) g) h
+  order_from c order_line text h = under (λ t g. under (λ u i. unended refl i) g) h
   order_from c (atom_line a) text h = absurd h
   order_from c (rule_line r) text h = absurd h
   order_from c end_line text h = absurd h
