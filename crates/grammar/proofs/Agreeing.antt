@@ -92,8 +92,8 @@ module _ {X Y : Type 0} (G : Care → X → List ℕ → Type 0) (H : X → Care
       at_byte_map e (λ k (piece, more, x, b, g). let t = sample x in (piece, more ++ t.1, t.0, b, via shape x t.0 (piece ++ more) t.1 (piece ++ (more ++ t.1)) (sym (append_assoc piece more t.1)) g t.2)) h
 
 -- a reader that answers the same agrees too
-pub agrees_same : {X : Type 0} (P Q : List ℕ → ℕ → Result (X × ℕ) Fault) (G : Care → X → List ℕ → Type 0) (Stop : List ℕ → Type 0) → ((text : List ℕ) (at : ℕ) → P text at ≡ Q text at) → Agrees P G Stop → Agrees Q G Stop
-agrees_same P Q G Stop e a =
+pub agrees_same : {X : Type 0} {P Q : List ℕ → ℕ → Result (X × ℕ) Fault} {G : Care → X → List ℕ → Type 0} {Stop : List ℕ → Type 0} → ((text : List ℕ) (at : ℕ) → P text at ≡ Q text at) → Agrees P G Stop → Agrees Q G Stop
+agrees_same {P} {Q} {G} e a =
     record {
       shaped = a.shaped;
       sample = a.sample;
@@ -103,8 +103,8 @@ agrees_same P Q G Stop e a =
     }
 
 -- a grammar with the same pieces is agreed with too
-pub agrees_as : {X : Type 0} (P : List ℕ → ℕ → Result (X × ℕ) Fault) (G H : Care → X → List ℕ → Type 0) (Stop : List ℕ → Type 0) → ((c : Care) (x : X) (piece : List ℕ) → G c x piece → H c x piece) → ((c : Care) (x : X) (piece : List ℕ) → H c x piece → G c x piece) → Agrees P G Stop → Agrees P H Stop
-agrees_as {X} P G H Stop to from a =
+pub agrees_as : {X : Type 0} {P : List ℕ → ℕ → Result (X × ℕ) Fault} {G H : Care → X → List ℕ → Type 0} {Stop : List ℕ → Type 0} → ((c : Care) (x : X) (piece : List ℕ) → G c x piece → H c x piece) → ((c : Care) (x : X) (piece : List ℕ) → H c x piece → G c x piece) → Agrees P G Stop → Agrees P H Stop
+agrees_as {X} {P} {G} {H} to from a =
     record {
       shaped = λ c x piece h. to shape x piece (a.shaped c x piece (from c x piece h));
       sample = let s = a.sample in (s.0, s.1, to shape s.0 s.1 s.2);
@@ -118,8 +118,8 @@ agrees_as {X} P G H Stop to from a =
     seen_as (Err e) text at h = at_byte_map e (λ k (piece, more, x, b, g). (piece, more, x, b, to shape x (piece ++ more) g)) h
 
 -- fewer things that may follow
-pub agrees_before : {X : Type 0} (P : List ℕ → ℕ → Result (X × ℕ) Fault) (G : Care → X → List ℕ → Type 0) (Stop Before : List ℕ → Type 0) → ((rest : List ℕ) → Before rest → Stop rest) → Agrees P G Stop → Agrees P G Before
-agrees_before P G Stop Before to a =
+pub agrees_before : {X : Type 0} {P : List ℕ → ℕ → Result (X × ℕ) Fault} {G : Care → X → List ℕ → Type 0} {Stop Before : List ℕ → Type 0} → ((rest : List ℕ) → Before rest → Stop rest) → Agrees P G Stop → Agrees P G Before
+agrees_before to a =
     record {
       shaped = a.shaped;
       sample = a.sample;
@@ -260,8 +260,8 @@ module _ (byte : ℕ) where
   -- a byte that must stand there, and then what may go by its place
   pub byte_then_at : {Y : Type 0} (K : ℕ → List ℕ → ℕ → Result (Y × ℕ) Fault) (G : Care → Y → List ℕ → Type 0) (Stop : List ℕ → Type 0) → ((at : ℕ) → Agrees (K at) G Stop) → Agrees (λ text at. and_then (pass_at byte text at) (K at text)) (λ c y. Followed (Exactly (byte ∷ [])) (G c y)) Stop
   byte_then_at K G Stop a =
-      agrees_same _ _ _ Stop (λ text at. then_then (pass_at byte text at) (λ n. Ok (tt, n)) (λ p. K at text p.1))
-      (agrees_as _ (Via Byted (λ u. G)) _ Stop (λ c y piece v. v.parts) (λ c y piece f. record { value = tt; parts = f })
+      agrees_same (λ text at. then_then (pass_at byte text at) (λ n. Ok (tt, n)) (λ p. K at text p.1))
+      (agrees_as (λ c y piece v. v.parts) (λ c y piece f. record { value = tt; parts = f })
       (agrees_then (λ text at. unsaid (pass_at byte text at)) (λ at u. K at) Byted (λ u. G) (λ _. Unit {0}) Stop agrees_byte (λ at u. a at) (λ c u y piece rest h s. tt)))
 
   -- the same, where the rest does not go by it
@@ -272,11 +272,11 @@ module _ (byte : ℕ) where
 pub word_then : {Y : Type 0} (word : List ℕ) (K : List ℕ → ℕ → Result (Y × ℕ) Fault) (G : Care → Y → List ℕ → Type 0) (Stop : List ℕ → Type 0) → Agrees K G Stop → Agrees (λ text at. and_then (pass_word word text at) (K text)) (λ c y. Followed (Exactly word) (G c y)) Stop
 unfolding pass_word
 word_then [] K G Stop a =
-    agrees_as K G _ Stop
+    agrees_as
     (λ c y piece g. record { front = []; back = piece; whole = refl; first = refl; second = g })
     (λ c y piece f. subst (G c y) (sym (f.whole ∙ ap (λ t. t ++ f.back) f.first)) f.second)
     a
 word_then (b ∷ word) K G Stop a =
-    agrees_as _ _ _ Stop (λ c y piece. word_to b word) (λ c y piece. word_from b word)
-    (agrees_same _ _ _ Stop (λ text at. sym (then_then (pass_at b text at) (pass_word word text) (K text)))
+    agrees_as (λ c y piece. word_to b word) (λ c y piece. word_from b word)
+    (agrees_same (λ text at. sym (then_then (pass_at b text at) (pass_word word text) (K text)))
     (byte_then b (λ text at. and_then (pass_word word text at) (K text)) (λ c y. Followed (Exactly word) (G c y)) Stop (word_then word K G Stop a)))

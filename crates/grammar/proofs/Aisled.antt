@@ -116,8 +116,8 @@ Routed t c r piece = (r ≡ route t) × (piece ≡ [])
 -- reading a route is reading the rising list of its aisles
 pub route_agrees : Agrees route_at RouteSpelt Any
 route_agrees =
-    agrees_same _ route_at RouteSpelt Any route_same
-    (agrees_as _ (Via Aisling Routed) RouteSpelt Any to from
+    agrees_same route_same
+    (agrees_as to from
     (agrees_then (listed walk 64 (0, 0)) (λ at t text m. Ok (route t, m)) Aisling Routed Any Any
     (list_agrees walk ends 64 (0, 0) (omega arith))
     (λ at t. agrees_done (route t) Any) (λ c t r piece rest g s. tt)))

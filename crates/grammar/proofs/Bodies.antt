@@ -95,8 +95,8 @@ module _ (site : Site) (before : ℕ) where
   -- reading a rule's list is reading six declared atoms at most
   pub body_agrees : Agrees (λ text at. body_at text site before at) (λ c ns text. Body c site.atoms ns text) Any
   body_agrees =
-      agrees_same (listed walk 6 []) _ _ Any body_same
-      (agrees_as (listed walk 6 []) _ (λ c ns text. Body c site.atoms ns text) Any to from
+      agrees_same body_same
+      (agrees_as to from
       (list_agrees walk ends 6 [] (omega arith)))
     where
       to : (c : Care) (ns text : List ℕ) → Bracketed walk c [] ns text → Body c site.atoms ns text

@@ -73,8 +73,8 @@ flip false x y = refl
 -- a fault that is no byte's, where a test finds one
 pub agrees_unless : {X : Type 0} (e : Fault) → AtByte e (λ _. ⊥) → (P : List ℕ → ℕ → Result (X × ℕ) Fault) (G : Care → X → List ℕ → Type 0) (Stop : List ℕ → Type 0) → Agrees P G Stop → (b : Bool) → Agrees (λ text at. cond b (Err e) (P text at)) (λ c x piece. Kept c (b ≡ false) × G c x piece) Stop
 agrees_unless e n P G Stop a b =
-    agrees_same _ _ _ Stop (λ text at. flip b (P text at) (Err e))
-    (agrees_as _ _ _ Stop
+    agrees_same (λ text at. flip b (P text at) (Err e))
+    (agrees_as
     (λ c x piece h. (kept_map c (not-true b) h.0, h.1))
     (λ c x piece h. (kept_map c (ap not) h.0, h.1))
     (agrees_if e n P G Stop a (not b)))

@@ -29,7 +29,7 @@ Known site v c n piece = Kept c (leb site.atoms v ≡ false) × ((n ≡ v) × (p
 -- the head of a rule
 pub head_agrees : (site : Site) → Agrees (λ text at. head_at text site at) (λ c n text. Declared c site.atoms n text) NoDigit
 head_agrees site =
-    agrees_as _ _ _ NoDigit to from
+    agrees_as to from
     (agrees_then (λ text at. number_at text at largest) (λ at v text m. cond (leb site.atoms v) (Err (Reading (AtomMissing site.rule 0))) (Ok (v, m)))
     (λ c v piece. Numeral c largest v piece) (Known site) NoDigit NoDigit (number_agrees largest)
     (λ at v. agrees_unless (Reading (AtomMissing site.rule 0)) tt (λ text m. Ok (v, m)) (λ c n piece. (n ≡ v) × (piece ≡ [])) NoDigit (agrees_done v NoDigit) (leb site.atoms v))
@@ -74,8 +74,8 @@ module _ {Y : Type 0} (expected : ℕ) (K : List ℕ → ℕ → Result (Y × �
   -- a reader after a line's number agrees with its pieces after that number
   pub numbered_then : Agrees (λ text at. and_then (next_number text expected at) (K text)) (λ c y. Followed (Numbered c expected) (G c y)) Stop
   numbered_then =
-      agrees_same _ _ _ Stop (λ text at. next_same text at (number_at text at largest))
-      (agrees_as _ (Via Spelt Next) _ Stop next_to next_from
+      agrees_same (λ text at. next_same text at (number_at text at largest))
+      (agrees_as next_to next_from
       (agrees_then (λ text at. number_at text at largest) (λ at v text m. cond (eqb v expected) (K text m) (Err (Reading (Number at)))) Spelt Next NoDigit Stop (number_agrees largest)
       (λ at v. agrees_if (Reading (Number at)) tt K G Stop a (eqb v expected))
       (λ c v y piece rest h s. starts c y piece rest h.1)))
@@ -86,7 +86,7 @@ Kinds c k piece = Followed (Exactly out_word) (λ p. (k ≡ false) × (p ≡ [])
 -- a reading or not
 pub kind_agrees : Agrees (λ text at. reading_at text at) (λ c k piece. Exactly (cond k in_word out_word) piece) Any
 kind_agrees =
-    agrees_as _ _ _ Any to from
+    agrees_as to from
     (agrees_choice 111 (λ text at. and_then (pass_word out_word text at) (λ next. Ok (false, next))) (λ text at. and_then (pass_word in_word text at) (λ next. Ok (true, next))) _ _ Any
     (word_then out_word (λ text at. Ok (false, at)) (λ c k p. (k ≡ false) × (p ≡ [])) Any (agrees_done false Any))
     (word_then in_word (λ text at. Ok (true, at)) (λ c k p. (k ≡ true) × (p ≡ [])) Any (agrees_done true Any))
@@ -164,7 +164,7 @@ module _ (site : Site) where
   pub rule_agrees : Agrees (λ text at. rule_at text site at) (λ c r text. Parts c site.atoms r text) Any
   unfolding rule_at
   rule_agrees =
-      agrees_as _ _ _ Any parts_to parts_from
+      agrees_as parts_to parts_from
       (byte_then 32 _ (Via Headed Positives) Any
       (agrees_then (λ text at. head_at text site at) (λ at h text m. and_then (pass_at 32 text m) (λ b. and_then (body_at text site 0 b) (λ p. and_then (pass_at 32 text p.1) (λ k. and_then (body_at text site (length p.0) k) (λ n. Ok (made h p.0 n.0, n.1)))))) Headed Positives NoDigit Any (head_agrees site) (λ at h. positives_agree h)
       (λ c h r piece rest g s. ap digit_of (first_of rest g))))

@@ -61,7 +61,7 @@ module _ (S : Type 0) (room : Counts) (atoms rules : ℕ) where
   -- a rule agrees, from its number on
   pub rule_rest_agrees : (at : ℕ) → Agrees (rule_rest S room atoms rules at) RuleRest Any
   rule_rest_agrees at =
-      agrees_as (rule_rest S room atoms rules at) _ RuleRest Any rule_to rule_from
+      agrees_as rule_to rule_from
       (agrees_unless (Reading (TooMany at)) tt _ (λ c y. Followed (Numbered c rules) (RuleSaid c y)) Any
       (numbered_then rules (λ text b. and_then (rule_at text (record { form = at; rule = rules; atoms = atoms }) b) (λ p. and_then (pass_word closing text p.1) (λ next. Ok (rule_line (Some p.0), next)))) RuleSaid Any
       (agrees_then (λ text b. rule_at text (record { form = at; rule = rules; atoms = atoms }) b) (λ b r text m. and_then (pass_word closing text m) (λ next. Ok (rule_line (Some r), next))) (λ c r text. Parts c atoms r text) (λ r. Closed (rule_line (Some r))) Any Any (rule_agrees (record { form = at; rule = rules; atoms = atoms })) (λ b r. closed_agrees (rule_line (Some r))) (λ c r y piece rest g s. tt))
@@ -83,7 +83,7 @@ module _ (S : Type 0) (room : Counts) (atoms rules : ℕ) where
   -- a vacant number agrees, from its number on
   pub void_rest_agrees : (at : ℕ) → Agrees (void_rest S room atoms rules at) VoidRest Any
   void_rest_agrees at =
-      agrees_as (void_rest S room atoms rules at) _ VoidRest Any void_to void_from
+      agrees_as void_to void_from
       (agrees_unless (Reading (TooMany at)) tt _ (λ c y. Followed (Numbered c rules) (Closed (rule_line None) c y)) Any
       (numbered_then rules (λ text b. and_then (pass_word closing text b) (λ next. Ok (rule_line None, next))) (Closed (rule_line None)) Any (closed_agrees (rule_line None)) (closed_stops (rule_line None)))
       (leb room.rules rules))
@@ -95,7 +95,7 @@ module _ (S : Type 0) (room : Counts) (atoms rules : ℕ) where
   -- the end form agrees, from the byte after its bracket
   pub end_rest_agrees : Agrees (end_rest S) EndRest Any
   end_rest_agrees =
-      agrees_as (end_rest S) _ EndRest Any to from
+      agrees_as to from
       (word_then end_word (λ text a. and_then (pass_at 10 text a) (λ next. Ok (end_line, next))) (λ c y. Followed (Exactly (10 ∷ [])) (λ p. (y ≡ end_line) × (p ≡ []))) Any
       (byte_then 10 (λ text m. Ok (end_line, m)) (λ c y p. (y ≡ end_line) × (p ≡ [])) Any (agrees_done end_line Any)))
     where
@@ -166,7 +166,7 @@ module _ (S : Type 0) (room : Counts) (atoms rules : ℕ) where
     -- an atom agrees, from its number on
     pub atom_rest_agrees : (at : ℕ) → Agrees (atom_rest S room atoms rules stamp_at at) AtomRest Any
     atom_rest_agrees at =
-        agrees_as (atom_rest S room atoms rules stamp_at at) _ AtomRest Any atom_to atom_from
+        agrees_as atom_to atom_from
         (agrees_unless (Reading (TooMany at)) tt _ (λ c y. Followed (Numbered c atoms) (AtomSaid c y)) Any
         (numbered_then atoms (λ text b. and_then (pass_at 32 text b) (λ c. and_then (reading_at text c) (λ k. and_then (stamp_at text k.1) (λ s. and_then (pass_word closing text s.1) (λ next. Ok (atom_line (record { stamp = s.0; reading = k.0 }), next)))))) AtomSaid Any said_agrees
         (λ c y piece rest g. starts 32 [] (Via Kinded Stamped c y) piece rest refl g))

@@ -39,7 +39,7 @@ lawful_ticks =
 pub lawful_pairs : Lawful pairs
 lawful_pairs =
     record {
-      agrees = agrees_before _ _ _ NoDigit (λ rest h. tt) pair_agrees;
+      agrees = agrees_before (λ rest h. tt) pair_agrees;
       canonical = λ p h. pair_canonical p (omega (arith, h.0)) (omega (arith, h.1));
       unique = pair_unique;
       held = λ p text h. let f = pair_fits p text h in (omega (arith, f.0), omega (arith, f.1));
@@ -50,7 +50,7 @@ lawful_pairs =
 pub lawful_routes : Lawful routes
 lawful_routes =
     record {
-      agrees = agrees_before _ _ _ NoDigit (λ rest h. tt) route_agrees;
+      agrees = agrees_before (λ rest h. tt) route_agrees;
       canonical = route_canonical;
       unique = route_unique;
       held = route_fits;

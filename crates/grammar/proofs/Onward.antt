@@ -22,7 +22,7 @@ use Rattle.grammar.specs.Notations.{Notation}
 -- what is read, changed
 agrees_map : {X Y : Type 0} (f : X → Y) (P : List ℕ → ℕ → Result (X × ℕ) Fault) (G : Care → X → List ℕ → Type 0) → Agrees P G Any → Agrees (λ text at. and_then (P text at) (λ p. Ok (f p.0, p.1))) (λ c y piece. (x : X) × (y ≡ f x) × G c x piece) Any
 agrees_map f P G a =
-    agrees_as _ (Via G (λ x c y piece. (y ≡ f x) × (piece ≡ []))) _ Any
+    agrees_as
     (λ c y piece v.
     let parts = v.parts in
     let same : parts.front ≡ piece = sym (parts.whole ∙ ap (λ t. parts.front ++ t) parts.second.1 ∙ append-nil parts.front) in

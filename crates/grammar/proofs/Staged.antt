@@ -122,8 +122,8 @@ module _ {S : Type 0} (kind : Notation S) (room : Counts) (stamps : Agrees kind.
   rules_agree : Agrees (reads_form kind room Rules atoms rules) (FormAt kind room Rules atoms rules) Any
   unfolding late_reader
   rules_agree =
-      agrees_same _ _ _ Any (rules_same kind room atoms rules)
-      (agrees_as _ (λ c y. Followed (Exactly (40 ∷ [])) (Late c y)) _ Any (λ c y text f. late_to c y text (Late c y) f f.second) late_from
+      agrees_same (rules_same kind room atoms rules)
+      (agrees_as (λ c y text f. late_to c y text (Late c y) f f.second) late_from
       (byte_then_at 40 late_reader Late Any late_agrees))
 
   -- among atoms
@@ -172,8 +172,8 @@ module _ {S : Type 0} (kind : Notation S) (room : Counts) (stamps : Agrees kind.
   atoms_agree : Agrees (reads_form kind room Atoms atoms rules) (FormAt kind room Atoms atoms rules) Any
   unfolding late_reader
   atoms_agree =
-      agrees_same _ _ _ Any (atoms_same kind room atoms rules)
-      (agrees_as _ (λ c y. Followed (Exactly (40 ∷ [])) (Early c y)) _ Any (λ c y text f. early_to c y text (Early c y) f f.second) early_from
+      agrees_same (atoms_same kind room atoms rules)
+      (agrees_as (λ c y text f. early_to c y text (Early c y) f f.second) early_from
       (byte_then_at 40 (λ at text m. cond (is_byte 97 (slice_get text m)) (after_atom kind room atoms rules at text m) (late_reader at text m)) Early Any early_agrees))
 
   -- before the order
@@ -195,8 +195,8 @@ module _ {S : Type 0} (kind : Notation S) (room : Counts) (stamps : Agrees kind.
   start_agrees : Agrees (reads_form kind room Start atoms rules) (FormAt kind room Start atoms rules) Any
   unfolding order_at
   start_agrees =
-      agrees_same _ _ _ Any (start_same kind room atoms rules)
-      (agrees_as _ Ordered _ Any order_to order_from
+      agrees_same (start_same kind room atoms rules)
+      (agrees_as order_to order_from
       (word_then order_opening (λ text a. and_then (pass_word kind.word text a) (λ b. and_then (pass_word closing text b) (λ next. Ok (order_line, next)))) _ Any
       (word_then kind.word (λ text b. and_then (pass_word closing text b) (λ next. Ok (order_line, next))) _ Any
       (word_then closing (λ text m. Ok (order_line, m)) (λ c y p. (y ≡ order_line) × (p ≡ [])) Any (agrees_done order_line Any)))))

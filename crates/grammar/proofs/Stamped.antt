@@ -21,7 +21,7 @@ IsTick v c t piece = (t ≡ record { 0 = v }) × (piece ≡ [])
 -- reading a tick is reading a number
 pub tick_agrees : Agrees tick_at TickSpelt NoDigit
 tick_agrees =
-    agrees_as tick_at (Via Ticked IsTick) TickSpelt NoDigit to from
+    agrees_as to from
     (agrees_then (λ text at. number_at text at largest) (λ at v text m. Ok (record { 0 = v }, m)) Ticked IsTick NoDigit NoDigit (number_agrees largest) (λ at v. agrees_done (record { 0 = v }) NoDigit)
     (λ c v t piece rest h s. subst (λ p. NoDigit (p ++ rest)) (sym h.1) s))
   where
@@ -47,7 +47,7 @@ First = Via TickSpelt (λ a c p. Followed (Exactly (32 ∷ [])) (Second a c p))
 -- reading a pair is reading two ticks in brackets
 pub pair_agrees : Agrees pair_at PairSpelt Any
 pair_agrees =
-    agrees_as pair_at (λ c p. Followed (Exactly (40 ∷ [])) (First c p)) PairSpelt Any to from
+    agrees_as to from
     (byte_then 40 _ First Any
     (agrees_then tick_at (λ at a text m. and_then (pass_at 32 text m) (λ second. and_then (tick_at text second) (λ b. and_then (pass_at 41 text b.1) (λ next. Ok (record { first = a; second = b.0 }, next))))) TickSpelt (λ a c p. Followed (Exactly (32 ∷ [])) (Second a c p)) NoDigit Any tick_agrees
     (λ at a. byte_then 32 (λ text m. and_then (tick_at text m) (λ b. and_then (pass_at 41 text b.1) (λ next. Ok (record { first = a; second = b.0 }, next)))) (Second a) Any (second_agrees a))
