@@ -12,11 +12,13 @@ use Rattle.grammar.specs.Pieces.{Care, shape, kept, plain, Kept, Exactly, Follow
 use Rattle.grammar.specs.Agreement.{AtByte, Same, Shared, Between, Seen, Reads, Agrees}
 use Rattle.grammar.proofs.Following.{word_to, word_from}
 use Rattle.grammar.proofs.Places.{slice_get_front, drop_past, between_join, between_none, between_one}
+use Rattle.std.proofs.lemmas.Bool.Decides.{nat_tests}
 
 -- whatever follows
 abbrev pub Any : List ℕ → Type 0
 Any rest = Unit {0}
 
+-- what follows from a fact of the place, where the fault is a byte that is not allowed
 pub at_byte_map : (e : Fault) {P Q : ℕ → Type 0} → ((k : ℕ) → P k → Q k) → AtByte e P → AtByte e Q
 at_byte_map (Reading (Byte k)) f h = f k h
 at_byte_map (Reading (NotRising k)) f h = tt
@@ -40,6 +42,7 @@ at_byte_both (Making x) P Q a b = tt
 pub not_at_byte : (e : Fault) (P : ℕ → Type 0) → AtByte e (λ _. ⊥) → AtByte e P
 not_at_byte e P h = at_byte_map e (λ k x. absurd x) h
 
+-- texts that are the same up to a place are the same up to an earlier one
 pub same_below : (text other : List ℕ) (m n : ℕ) → m ≤ n → Same text other n → Same text other m
 same_below text other m n h same i l = same i (omega arith)
 
@@ -48,6 +51,7 @@ abbrev pub Reaches : {X : Type 0} → ℕ → Result (X × ℕ) Fault → Type 0
 Reaches n (Ok p) = n ≤ p.1
 Reaches n (Err e) = AtByte e (λ k. n ≤ k)
 
+-- what has seen a piece, or the beginning of one, has not gone back
 pub seen_reaches : {X : Type 0} (G : Care → X → List ℕ → Type 0) (r : Result (X × ℕ) Fault) (text : List ℕ) (at : ℕ) → Seen G r text at → Reaches at r
 seen_reaches G (Ok p) text at (piece, b, g) = omega (arith, b.place)
 seen_reaches G (Err e) text at h = at_byte_map e (λ k s. omega (arith, s.3.place)) h
@@ -62,6 +66,7 @@ module _ {X Y : Type 0} (text other : List ℕ) where
   shared_then (Ok p) s f g h k n = shared_on p (f p) s g h (k p) (n p)
   shared_then (Err e) s f g h k n = at_byte_map e (λ i a same. ap (λ b. and_then b g) (a same)) h
 
+-- a piece that is read, and then one that is read from its end on, are read together
 pub reads_then : {X Y : Type 0} (c : Care) (r : Result (X × ℕ) Fault) (f : X × ℕ → Result (Y × ℕ) Fault) (x : X) (n : ℕ) (y : Y) (m : ℕ) → Reads c r x n → Reads c (f (x, n)) y m → Reads c (and_then r f) y m
 reads_then c r f x n y m (inl e) h = subst (λ s. Reads c (and_then s f) y m) (sym e) h
 reads_then c r f x n y m (inr (s, (e, q, b))) h = inr (s, (e, ap (λ a. and_then a f) q, b))
@@ -87,8 +92,8 @@ module _ {X Y : Type 0} (G : Care → X → List ℕ → Type 0) (H : X → Care
       at_byte_map e (λ k (piece, more, x, b, g). let t = sample x in (piece, more ++ t.1, t.0, b, via shape x t.0 (piece ++ more) t.1 (piece ++ (more ++ t.1)) (sym (append_assoc piece more t.1)) g t.2)) h
 
 -- a reader that answers the same agrees too
-pub agrees_same : {X : Type 0} (P Q : List ℕ → ℕ → Result (X × ℕ) Fault) (G : Care → X → List ℕ → Type 0) (Stop : List ℕ → Type 0) → ((text : List ℕ) (at : ℕ) → P text at ≡ Q text at) → Agrees P G Stop → Agrees Q G Stop
-agrees_same P Q G Stop e a =
+pub agrees_same : {X : Type 0} {P Q : List ℕ → ℕ → Result (X × ℕ) Fault} {G : Care → X → List ℕ → Type 0} {Stop : List ℕ → Type 0} → ((text : List ℕ) (at : ℕ) → P text at ≡ Q text at) → Agrees P G Stop → Agrees Q G Stop
+agrees_same {P} {Q} {G} e a =
     record {
       shaped = a.shaped;
       sample = a.sample;
@@ -98,8 +103,8 @@ agrees_same P Q G Stop e a =
     }
 
 -- a grammar with the same pieces is agreed with too
-pub agrees_as : {X : Type 0} (P : List ℕ → ℕ → Result (X × ℕ) Fault) (G H : Care → X → List ℕ → Type 0) (Stop : List ℕ → Type 0) → ((c : Care) (x : X) (piece : List ℕ) → G c x piece → H c x piece) → ((c : Care) (x : X) (piece : List ℕ) → H c x piece → G c x piece) → Agrees P G Stop → Agrees P H Stop
-agrees_as {X} P G H Stop to from a =
+pub agrees_as : {X : Type 0} {P : List ℕ → ℕ → Result (X × ℕ) Fault} {G H : Care → X → List ℕ → Type 0} {Stop : List ℕ → Type 0} → ((c : Care) (x : X) (piece : List ℕ) → G c x piece → H c x piece) → ((c : Care) (x : X) (piece : List ℕ) → H c x piece → G c x piece) → Agrees P G Stop → Agrees P H Stop
+agrees_as {X} {P} {G} {H} to from a =
     record {
       shaped = λ c x piece h. to shape x piece (a.shaped c x piece (from c x piece h));
       sample = let s = a.sample in (s.0, s.1, to shape s.0 s.1 s.2);
@@ -113,8 +118,8 @@ agrees_as {X} P G H Stop to from a =
     seen_as (Err e) text at h = at_byte_map e (λ k (piece, more, x, b, g). (piece, more, x, b, to shape x (piece ++ more) g)) h
 
 -- fewer things that may follow
-pub agrees_before : {X : Type 0} (P : List ℕ → ℕ → Result (X × ℕ) Fault) (G : Care → X → List ℕ → Type 0) (Stop Before : List ℕ → Type 0) → ((rest : List ℕ) → Before rest → Stop rest) → Agrees P G Stop → Agrees P G Before
-agrees_before P G Stop Before to a =
+pub agrees_before : {X : Type 0} {P : List ℕ → ℕ → Result (X × ℕ) Fault} {G : Care → X → List ℕ → Type 0} {Stop Before : List ℕ → Type 0} → ((rest : List ℕ) → Before rest → Stop rest) → Agrees P G Stop → Agrees P G Before
+agrees_before to a =
     record {
       shaped = a.shaped;
       sample = a.sample;
@@ -182,9 +187,10 @@ module _ {X : Type 0} (e : Fault) (other-fault : AtByte e (λ _. ⊥)) (P : List
   reads_if : (b : Bool) (c : Care) (x : X) (piece rest text : List ℕ) (at : ℕ) → Kept c (b ≡ true) → G c x piece → Stop rest → drop at text ≡ piece ++ rest → Reads c (go b text at) x (at + length piece)
   reads_if true c x piece rest text at k g s d = a.reads c x piece rest text at g s d
   reads_if false shape x piece rest text at k g s d = inr (tt, (e, refl, other-fault))
-  reads_if false kept x piece rest text at k g s d = let z : ◌≡◌ {A = ℕ} 0 1 = cc in absurd (omega arith)
-  reads_if false plain x piece rest text at k g s d = let z : ◌≡◌ {A = ℕ} 0 1 = cc in absurd (omega arith)
+  reads_if false kept x piece rest text at k g s d = absurd (grind arith)
+  reads_if false plain x piece rest text at k g s d = absurd (grind arith)
 
+  -- a reader behind a test agrees with the pieces that keep the test
   pub agrees_if : (b : Bool) → Agrees (go b) (Passed b) Stop
   agrees_if b =
       record {
@@ -205,6 +211,11 @@ pub then_then : {X Y Z : Type 0} (r : Result X Fault) (f : X → Result Y Fault)
 then_then (Ok x) f g = refl
 then_then (Err e) f g = refl
 
+-- what goes on the same way from each answer
+pub then_same : {X Y : Type 0} (r : Result X Fault) (f g : X → Result Y Fault) → ((x : X) → f x ≡ g x) → and_then r f ≡ and_then r g
+then_same (Ok x) f g h = h x
+then_same (Err e) f g h = refl
+
 -- the place after, with nothing to say
 abbrev unsaid : Result ℕ Fault → Result (Unit {0} × ℕ) Fault
 unsaid r = and_then r (λ n. Ok (tt, n))
@@ -218,18 +229,20 @@ module _ (byte : ℕ) where
   seen_at text at (Some b) e =
       elim (cases_eq b byte) [
         | inl same ↦
-            let answer : unsaid (pass_if byte at (Some b)) ≡ Ok (tt, at + 1) = ap (λ t. unsaid (cond t (Ok (at + 1)) (wrong_at at))) (eq-eqb b byte same) in
-            subst (λ r. Seen Byted r text at) (sym answer) (byte ∷ [], between_one text at byte (e ∙ ap Some same), refl)
+            let answer : unsaid (pass_if byte at (Some b)) ≡ Ok (tt, at + 1) = grind (arith, nat_tests) in
+            subst (λ r. Seen Byted r text at) (sym answer) (byte ∷ [], between_one text at byte (grind arith), refl)
         | inr apart ↦
-            let answer : unsaid (pass_if byte at (Some b)) ≡ wrong_at at = ap (λ t. unsaid (cond t (Ok (at + 1)) (wrong_at at))) (ne_eqb b byte apart) in
+            let answer : unsaid (pass_if byte at (Some b)) ≡ wrong_at at = grind (arith, nat_tests) in
             subst (λ r. Seen Byted r text at) (sym answer) ([], byte ∷ [], tt, between_none text at, refl)
       ]
 
+  -- the byte at a place from which a text goes on with it
   pub front_byte : (text : List ℕ) (at : ℕ) (rest : List ℕ) → drop at text ≡ byte ∷ rest → slice_get text at ≡ Some byte
   front_byte text at rest d = slice_get_front text at ∙ ap (λ t. slice_get t 0) d
 
+  -- a byte that stands at the place is passed
   pub pass_byte : (text : List ℕ) (at : ℕ) → slice_get text at ≡ Some byte → pass_at byte text at ≡ Ok (at + 1)
-  pass_byte text at e = ap (pass_if byte at) e ∙ ap (λ t. cond t (Ok (at + 1)) (wrong_at at)) (eq-eqb byte byte refl)
+  pass_byte text at e = rw e (grind (arith, nat_tests))
 
   agrees_byte : Agrees (λ text at. unsaid (pass_at byte text at)) Byted (λ _. Unit {0})
   agrees_byte =
@@ -247,8 +260,8 @@ module _ (byte : ℕ) where
   -- a byte that must stand there, and then what may go by its place
   pub byte_then_at : {Y : Type 0} (K : ℕ → List ℕ → ℕ → Result (Y × ℕ) Fault) (G : Care → Y → List ℕ → Type 0) (Stop : List ℕ → Type 0) → ((at : ℕ) → Agrees (K at) G Stop) → Agrees (λ text at. and_then (pass_at byte text at) (K at text)) (λ c y. Followed (Exactly (byte ∷ [])) (G c y)) Stop
   byte_then_at K G Stop a =
-      agrees_same _ _ _ Stop (λ text at. then_then (pass_at byte text at) (λ n. Ok (tt, n)) (λ p. K at text p.1))
-      (agrees_as _ (Via Byted (λ u. G)) _ Stop (λ c y piece v. v.parts) (λ c y piece f. record { value = tt; parts = f })
+      agrees_same (λ text at. then_then (pass_at byte text at) (λ n. Ok (tt, n)) (λ p. K at text p.1))
+      (agrees_as (λ c y piece v. v.parts) (λ c y piece f. record { value = tt; parts = f })
       (agrees_then (λ text at. unsaid (pass_at byte text at)) (λ at u. K at) Byted (λ u. G) (λ _. Unit {0}) Stop agrees_byte (λ at u. a at) (λ c u y piece rest h s. tt)))
 
   -- the same, where the rest does not go by it
@@ -259,11 +272,11 @@ module _ (byte : ℕ) where
 pub word_then : {Y : Type 0} (word : List ℕ) (K : List ℕ → ℕ → Result (Y × ℕ) Fault) (G : Care → Y → List ℕ → Type 0) (Stop : List ℕ → Type 0) → Agrees K G Stop → Agrees (λ text at. and_then (pass_word word text at) (K text)) (λ c y. Followed (Exactly word) (G c y)) Stop
 unfolding pass_word
 word_then [] K G Stop a =
-    agrees_as K G _ Stop
+    agrees_as
     (λ c y piece g. record { front = []; back = piece; whole = refl; first = refl; second = g })
     (λ c y piece f. subst (G c y) (sym (f.whole ∙ ap (λ t. t ++ f.back) f.first)) f.second)
     a
 word_then (b ∷ word) K G Stop a =
-    agrees_as _ _ _ Stop (λ c y piece. word_to b word (G c y) piece) (λ c y piece. word_from b word (G c y) piece)
-    (agrees_same _ _ _ Stop (λ text at. sym (then_then (pass_at b text at) (pass_word word text) (K text)))
+    agrees_as (λ c y piece. word_to b word) (λ c y piece. word_from b word)
+    (agrees_same (λ text at. sym (then_then (pass_at b text at) (pass_word word text) (K text)))
     (byte_then b (λ text at. and_then (pass_word word text at) (K text)) (λ c y. Followed (Exactly word) (G c y)) Stop (word_then word K G Stop a)))

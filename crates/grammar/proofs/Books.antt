@@ -10,11 +10,13 @@ use Rattle.text.specs.Kinds.{order_opening, atom_opening, rule_opening, void_ope
 use Rattle.text.specs.Spelt.{up_to, space, list_text, kind_text, atom_text, rule_text, rule_line_of, end_text, book_text}
 use Rattle.writing.proofs.Gapless.{small_atoms, small_rules}
 use Rattle.writing.specs.Writes.{book_gap}
-use Rattle.grammar.specs.Pieces.{Care, kept, plain, Exactly, largest}
-use Rattle.grammar.specs.Grammar.{Numbered, Declared, Body, AtomForm, RuleForm, AtomForms, RuleForms, Spells}
+use Rattle.grammar.specs.Pieces.{kept, plain, Exactly, largest}
+use Rattle.grammar.specs.Grammar.{Numbered, Declared, Body, AtomForm, RuleForm, AtomForms, RuleForms}
 use Rattle.grammar.proofs.Canonical.{numeral_canonical, numeral_unique, list_canonical, list_unique, up_to_same, up_to_first}
 use Rattle.grammar.proofs.Following.{followed_by, followed_unique}
 use Rattle.grammar.proofs.Gaps.{GaplessRule, GaplessRow, gap_rules, rules_gapless}
+use Rattle.grammar.specs.Notations.{Notation}
+use Rattle.grammar.specs.Theorems.{Fitting, SpeltBy, written_of}
 
 -- what f gives of each thing and its number, one after another from number k on
 abbrev lines_from : {X : Type 0} → (ℕ → X → List ℕ) → ℕ → List X → List ℕ
@@ -149,43 +151,43 @@ rules_sound : (atoms k : ℕ) (os : List (Option Rule)) (text : List ℕ) → Ru
 rules_sound atoms k [] text h = tt
 rules_sound atoms k (o ∷ os) text h = (rule_line_gapless atoms k o h.front h.first, rules_sound atoms (k + 1) os h.back h.second)
 
-module _ {S : Type 0} (word : List ℕ) (spells : Care → S → List ℕ → Type 0) (spelt : S → List ℕ) (Fits : S → Type 0) where
+module _ {S : Type 0} (n : Notation S) where
   abbrev atom_line : ℕ → Atom S → List ℕ
-  atom_line i a = atom_text spelt i (Some a)
+  atom_line i a = atom_text n.spelt i (Some a)
 
   -- an atom's line, bracketed as the grammar has it
   module _ (i : ℕ) (a : Atom S) where
     abbrev after_kind : List ℕ
-    after_kind = spelt a.stamp ++ closing
+    after_kind = n.spelt a.stamp ++ closing
 
     atom_text_lem : atom_line i a ≡ atom_opening ++ (decimal i ++ (kind_text a.reading ++ after_kind))
-    atom_text_lem = append_five atom_opening (decimal i) (kind_text a.reading) (spelt a.stamp) closing
+    atom_text_lem = append_five atom_opening (decimal i) (kind_text a.reading) (n.spelt a.stamp) closing
 
-    atom_canonical : i < 1024 → spells plain a.stamp (spelt a.stamp) → AtomForm spells plain i a (atom_line i a)
+    atom_canonical : i < 1024 → n.spells plain a.stamp (n.spelt a.stamp) → AtomForm n.spells plain i a (atom_line i a)
     atom_canonical l s =
-        subst (AtomForm spells plain i a) (sym atom_text_lem)
+        subst (AtomForm n.spells plain i a) (sym atom_text_lem)
         (followed_by atom_opening (decimal i ++ (kind_text a.reading ++ after_kind)) refl
         (followed_by (decimal i) (kind_text a.reading ++ after_kind) (numbered_canonical i l)
-        (followed_by (kind_text a.reading) after_kind refl (followed_by (spelt a.stamp) closing s refl))))
+        (followed_by (kind_text a.reading) after_kind refl (followed_by (n.spelt a.stamp) closing s refl))))
 
-    atom_unique : ((text : List ℕ) → spells plain a.stamp text → text ≡ spelt a.stamp) → (text : List ℕ) → AtomForm spells plain i a text → text ≡ atom_line i a
+    atom_unique : ((text : List ℕ) → n.spells plain a.stamp text → text ≡ n.spelt a.stamp) → (text : List ℕ) → AtomForm n.spells plain i a text → text ≡ atom_line i a
     atom_unique s text h =
         followed_unique atom_opening (decimal i ++ (kind_text a.reading ++ after_kind)) text (exactly_unique atom_opening)
         (λ t. followed_unique (decimal i) (kind_text a.reading ++ after_kind) t (numbered_unique i)
         (λ t. followed_unique (kind_text a.reading) after_kind t (exactly_unique (kind_text a.reading))
-        (λ t. followed_unique (spelt a.stamp) closing t s (exactly_unique closing)))) h
+        (λ t. followed_unique (n.spelt a.stamp) closing t s (exactly_unique closing)))) h
         ∙ sym atom_text_lem
 
   abbrev Held : List (Atom S) → Type 0
-  Held xs = AllByRecursion (λ (a : Atom S). Fits a.stamp) xs
+  Held xs = AllByRecursion (λ (a : Atom S). n.Fits a.stamp) xs
 
-  atoms_canonical : ((s : S) → Fits s → spells plain s (spelt s)) → (i : ℕ) (xs : List (Atom S)) → i + length xs ≤ 1024 → Held xs → AtomForms spells plain i xs (lines_from atom_line i xs)
+  atoms_canonical : ((s : S) → n.Fits s → n.spells plain s (n.spelt s)) → (i : ℕ) (xs : List (Atom S)) → i + length xs ≤ 1024 → Held xs → AtomForms n.spells plain i xs (lines_from atom_line i xs)
   atoms_canonical s i [] l h = refl
   atoms_canonical s i (a ∷ xs) l h =
       followed_by (atom_line i a) (lines_from atom_line (i + 1) xs) (atom_canonical i a (omega arith) (s a.stamp h.0))
       (atoms_canonical s (i + 1) xs (omega arith) h.1)
 
-  atoms_unique : ((s : S) (text : List ℕ) → spells plain s text → text ≡ spelt s) → (i : ℕ) (xs : List (Atom S)) (text : List ℕ) → AtomForms spells plain i xs text → text ≡ lines_from atom_line i xs
+  atoms_unique : ((s : S) (text : List ℕ) → n.spells plain s text → text ≡ n.spelt s) → (i : ℕ) (xs : List (Atom S)) (text : List ℕ) → AtomForms n.spells plain i xs text → text ≡ lines_from atom_line i xs
   atoms_unique s i [] text h = h
   atoms_unique s i (a ∷ xs) text h =
       followed_unique (atom_line i a) (lines_from atom_line (i + 1) xs) text (atom_unique i a (s a.stamp)) (atoms_unique s (i + 1) xs) h
@@ -197,47 +199,47 @@ module _ {S : Type 0} (word : List ℕ) (spells : Care → S → List ℕ → Ty
   abbrev lines : Meaning S → List ℕ
   lines m = lines_from atom_line 0 m.atoms ++ rest m
 
-  book_text_lem : (m : Meaning S) → book_text word spelt m ≡ (order_opening ++ (word ++ closing)) ++ lines m
+  book_text_lem : (m : Meaning S) → written_of n m ≡ (order_opening ++ (n.word ++ closing)) ++ lines m
   unfolding book_text
   book_text_lem m =
-      let order = order_opening ++ word ++ closing in
-      ap (λ t. order ++ t ++ up_to (rule_line_of m) (length m.rules) ++ end_text) (lines_text (atom_text spelt) m.atoms)
+      let order = order_opening ++ n.word ++ closing in
+      ap (λ t. order ++ t ++ up_to (rule_line_of m) (length m.rules) ++ end_text) (lines_text (atom_text n.spelt) m.atoms)
       ∙ ap (λ t. order ++ lines_from atom_line 0 m.atoms ++ t ++ end_text) (lines_text (λ i o. rule_text i (option_flatten o)) m.rules)
       ∙ append_assoc (order ++ lines_from atom_line 0 m.atoms) (lines_from rule_text 0 m.rules) end_text
       ∙ append_assoc order (lines_from atom_line 0 m.atoms) (rest m)
-      ∙ ap (λ t. t ++ lines m) (append_assoc order_opening word closing)
+      ∙ ap (λ t. t ++ lines m) (append_assoc order_opening n.word closing)
 
   -- the text that is written of a book spells it, with no leading zeros
-  pub book_canonical : ((s : S) → Fits s → spells plain s (spelt s)) → (m : Meaning S) → book_gap m ≡ None → AllByRecursion (λ (a : Atom S). Fits a.stamp) m.atoms → Spells word spells plain m (book_text word spelt m)
+  pub book_canonical : ((s : S) → n.Fits s → n.spells plain s (n.spelt s)) → (m : Meaning S) → book_gap m ≡ None → Fitting n m → SpeltBy n plain m (written_of n m)
   book_canonical s m e h =
       let small : length m.atoms ≤ 1024 = small_atoms m e in
       let few : length m.rules ≤ 1024 = small_rules m e in
-      subst (Spells word spells plain m) (sym (book_text_lem m))
-      (followed_by (order_opening ++ (word ++ closing)) (lines m) (followed_by order_opening (word ++ closing) refl (followed_by word closing refl refl))
+      subst (SpeltBy n plain m) (sym (book_text_lem m))
+      (followed_by (order_opening ++ (n.word ++ closing)) (lines m) (followed_by order_opening (n.word ++ closing) refl (followed_by n.word closing refl refl))
       (followed_by (lines_from atom_line 0 m.atoms) (rest m) (atoms_canonical s 0 m.atoms (omega arith) h)
       (followed_by (lines_from rule_text 0 m.rules) end_text (rules_canonical (length m.atoms) 0 m.rules small (omega arith) (gap_rules m e)) refl)))
 
   -- and no other text does
-  pub book_unique : ((s : S) (text : List ℕ) → spells plain s text → text ≡ spelt s) → (m : Meaning S) (text : List ℕ) → Spells word spells plain m text → text ≡ book_text word spelt m
+  pub book_unique : ((s : S) (text : List ℕ) → n.spells plain s text → text ≡ n.spelt s) → (m : Meaning S) (text : List ℕ) → SpeltBy n plain m text → text ≡ written_of n m
   book_unique s m text h =
-      followed_unique (order_opening ++ (word ++ closing)) (lines m) text
-      (λ t. followed_unique order_opening (word ++ closing) t (exactly_unique order_opening) (λ u. followed_unique word closing u (exactly_unique word) (exactly_unique closing)))
+      followed_unique (order_opening ++ (n.word ++ closing)) (lines m) text
+      (λ t. followed_unique order_opening (n.word ++ closing) t (exactly_unique order_opening) (λ u. followed_unique n.word closing u (exactly_unique n.word) (exactly_unique closing)))
       (λ t. followed_unique (lines_from atom_line 0 m.atoms) (rest m) t (atoms_unique s 0 m.atoms)
       (λ u. followed_unique (lines_from rule_text 0 m.rules) end_text u (rules_unique (length m.atoms) 0 m.rules) (exactly_unique end_text))) h
       ∙ sym (book_text_lem m)
 
-  atoms_held : ((s : S) (text : List ℕ) → spells kept s text → Fits s) → (i : ℕ) (xs : List (Atom S)) (text : List ℕ) → AtomForms spells kept i xs text → Held xs
+  atoms_held : ((s : S) (text : List ℕ) → n.spells kept s text → n.Fits s) → (i : ℕ) (xs : List (Atom S)) (text : List ℕ) → AtomForms n.spells kept i xs text → Held xs
   atoms_held s i [] text h = tt
   atoms_held s i (a ∷ xs) text h =
       let stamped = h.first.second.second.second in
       (s a.stamp stamped.front stamped.first, atoms_held s (i + 1) xs h.back h.second)
 
   -- the machine holds the stamps of a book that is spelt
-  pub spelt_held : ((s : S) (text : List ℕ) → spells kept s text → Fits s) → (m : Meaning S) (text : List ℕ) → Spells word spells kept m text → AllByRecursion (λ (a : Atom S). Fits a.stamp) m.atoms
+  pub spelt_held : ((s : S) (text : List ℕ) → n.spells kept s text → n.Fits s) → (m : Meaning S) (text : List ℕ) → SpeltBy n kept m text → Fitting n m
   spelt_held s m text h = atoms_held s 0 m.atoms h.second.front h.second.first
 
   -- a book that is spelt can be written
-  pub spelt_gapless : (m : Meaning S) (text : List ℕ) → Spells word spells kept m text → length m.atoms ≤ 1024 → length m.rules ≤ 1024 → book_gap m ≡ None
+  pub spelt_gapless : (m : Meaning S) (text : List ℕ) → SpeltBy n kept m text → length m.atoms ≤ 1024 → length m.rules ≤ 1024 → book_gap m ≡ None
   spelt_gapless m text h a b =
       let ruled = h.second.second in
       rules_gapless m a b (rules_sound (length m.atoms) 0 m.rules ruled.front ruled.first)

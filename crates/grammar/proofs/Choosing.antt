@@ -1,5 +1,6 @@
 -- Readers that go one way or another: by a byte, or by a test of what was read.
 use Rattle.std.proofs.Common.{◌≡◌, ℕ, ◌+◌, Bool, true, false, cond, not, ◌⊎◌, List, ◌++◌, length, drop, Ok, Err, Result, sym, refl, ap, ◌∙◌, subst, inl, inr, arith}
+use Rattle.std.proofs.lemmas.Bool.{not-true}
 use Rattle.std.specs.List.{slice_get}
 use Rattle.books.specs.declared.fault.Fault.{Fault}
 use Rattle.text.specs.Words.{is_byte}
@@ -54,6 +55,7 @@ module _ {X : Type 0} (byte : ℕ) (P Q : List ℕ → ℕ → Result (X × ℕ)
     shaped_choice c x piece (inl g) = inl (a.shaped c x piece g)
     shaped_choice c x piece (inr h) = inr (b.shaped c x piece h)
 
+    -- the choice by a byte agrees with the pieces of both, where the byte tells them apart
     pub agrees_choice : Agrees chosen Either Stop
     agrees_choice =
         record {
@@ -68,16 +70,12 @@ flip : {X : Type 0} (b : Bool) (x y : X) → cond (not b) x y ≡ cond b y x
 flip true x y = refl
 flip false x y = refl
 
-not_true : (b : Bool) → not b ≡ true → b ≡ false
-not_true true e = sym e
-not_true false e = refl
-
 -- a fault that is no byte's, where a test finds one
 pub agrees_unless : {X : Type 0} (e : Fault) → AtByte e (λ _. ⊥) → (P : List ℕ → ℕ → Result (X × ℕ) Fault) (G : Care → X → List ℕ → Type 0) (Stop : List ℕ → Type 0) → Agrees P G Stop → (b : Bool) → Agrees (λ text at. cond b (Err e) (P text at)) (λ c x piece. Kept c (b ≡ false) × G c x piece) Stop
 agrees_unless e n P G Stop a b =
-    agrees_same _ _ _ Stop (λ text at. flip b (P text at) (Err e))
-    (agrees_as _ _ _ Stop
-    (λ c x piece h. (kept_map c (not_true b) h.0, h.1))
+    agrees_same (λ text at. flip b (P text at) (Err e))
+    (agrees_as
+    (λ c x piece h. (kept_map c (not-true b) h.0, h.1))
     (λ c x piece h. (kept_map c (ap not) h.0, h.1))
     (agrees_if e n P G Stop a (not b)))
 

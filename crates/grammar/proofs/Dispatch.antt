@@ -10,9 +10,10 @@ use Rattle.text.proofs.Opened.{begins_step, pass_if_lem}
 use Rattle.text.specs.Rules.{rule_at}
 use Rattle.text.specs.Forms.{Line, atom_line, rule_line, end_line, closing, next_number, if_room, reading_at, order_at, atom_at, rule_form_at, void_at, end_at, refused_at, by_kind, form_at}
 use Rattle.text.specs.declared.kind.Kind.{Kind}
-use Rattle.text.specs.declared.kind.Kind.TheVariants as kind
+use Rattle.text.specs.declared.kind.Kind.TheVariants as kinds
 use Rattle.text.specs.declared.reader.Stage.TheVariants.{Start, Atoms, Rules}
 use Rattle.text.specs.declared.counts.Counts.{Counts}
+use Rattle.grammar.specs.Notations.{Notation}
 
 pass_by : {X : Type 0} (t : Bool) (at m : ℕ) (K : ℕ → Result X Fault) → and_then (cond t (Ok m) (wrong_at at)) K ≡ cond t (K m) (wrong_at at)
 pass_by true at m K = refl
@@ -33,7 +34,7 @@ word_first b word text at K = ap (λ r. and_then r K) (byte_first b text at (pas
 -- a word with which the text does not begin is refused where they part
 word_refused : {X : Type 0} (word text : List ℕ) (at : ℕ) (K : ℕ → Result X Fault) → begins word (drop at text) ≡ false → and_then (pass_word word text at) K ≡ wrong_at (agrees_to word text at)
 unfolding agrees_to
-word_refused [] text at K h = let z : ◌≡◌ {A = ℕ} 0 1 = cc in absurd (omega arith)
+word_refused [] text at K h = absurd (grind arith)
 word_refused {X} (b ∷ word) text at K h = word_first b word text at K ∙ parts (is_byte b (slice_get text at)) (begins word (drop (at + 1) text)) (and_then (pass_word word text (at + 1)) K) (agrees_to word text (at + 1)) (word_refused word text (at + 1) K) (sym (begins_step b word text at) ∙ h)
   where
     parts : (t u : Bool) (r : Result X Fault) (j : ℕ) → (u ≡ false → r ≡ wrong_at j) → (t && u) ≡ false → cond t r (wrong_at at) ≡ wrong_at (cond t j at)
@@ -88,7 +89,7 @@ told (Some b) =
 
 -- the kind, by whether the text begins with each opening
 abbrev kind_by : Bool → Bool → Bool → Bool → Bool → Option Kind
-kind_by o a r v e = cond o (Some kind.Order) (cond a (Some kind.Atom) (cond r (Some kind.Rule) (cond v (Some kind.Void) (cond e (Some kind.End) None))))
+kind_by o a r v e = cond o (Some kinds.Order) (cond a (Some kinds.Atom) (cond r (Some kinds.Rule) (cond v (Some kinds.Void) (cond e (Some kinds.End) None))))
 
 kind_same : (o a r v e o' a' r' v' e' : Bool) → o ≡ o' → a ≡ a' → r ≡ r' → v ≡ v' → e ≡ e' → kind_by o' a' r' v' e' ≡ kind_by o a r v e
 kind_same o a r v e o' a' r' v' e' p q s t u = rw (p, q, s, t, u)
@@ -189,16 +190,19 @@ table_same k k' N N' A A' R R' V V' E E' p q s t u w = cc
 opening_step : (b : ℕ) (word text : List ℕ) (at : ℕ) → begins (40 ∷ b ∷ word) (drop at text) ≡ (is_byte 40 (slice_get text at) && (is_byte b (slice_get text (at + 1)) && begins word (drop (at + 1 + 1) text)))
 opening_step b word text at = begins_step 40 (b ∷ word) text at ∙ ap (λ u. is_byte 40 (slice_get text at) && u) (begins_step b word text (at + 1))
 
--- the openings after the bracket
+-- the opening of an atom after its bracket
 abbrev pub atom_word : List ℕ
 atom_word = codes "atom "
 
+-- the opening of a rule after its bracket
 abbrev pub rule_word : List ℕ
 rule_word = codes "rule "
 
+-- the opening of a vacant number after its bracket
 abbrev pub void_word : List ℕ
 void_word = codes "void "
 
+-- the end form after its bracket, up to its line end
 abbrev pub end_word : List ℕ
 end_word = codes "end)"
 
@@ -263,29 +267,32 @@ module _ (S : Type 0) where
         (λ s. and_then (pass_word closing text s.1)
         (λ next. Ok (atom_line (record { stamp = s.0; reading = k.0 }), next)))))))
 
-module _ {S : Type 0} (stamp_at : List ℕ → ℕ → Result (S × ℕ) Fault) (word : List ℕ) (room : Counts) (atoms rules : ℕ) where
-  -- the forms after their bracket, which stands at `at`
+module _ {S : Type 0} (kind : Notation S) (room : Counts) (atoms rules : ℕ) where
+  -- an atom, from the byte after its bracket, which stands at `at`
   abbrev pub after_atom : ℕ → List ℕ → ℕ → Result (Line S × ℕ) Fault
-  after_atom at text m = and_then (pass_word atom_word text m) (atom_rest S room atoms rules stamp_at at text)
+  after_atom at text m = and_then (pass_word atom_word text m) (atom_rest S room atoms rules kind.stamp_at at text)
 
+  -- a rule, from the byte after its bracket
   abbrev pub after_rule : ℕ → List ℕ → ℕ → Result (Line S × ℕ) Fault
   after_rule at text m = and_then (pass_word rule_word text m) (rule_rest S room atoms rules at text)
 
+  -- a vacant number, from the byte after its bracket
   abbrev pub after_void : ℕ → List ℕ → ℕ → Result (Line S × ℕ) Fault
   after_void at text m = and_then (pass_word void_word text m) (void_rest S room atoms rules at text)
 
+  -- the end form, from the byte after its bracket
   abbrev pub after_end : List ℕ → ℕ → Result (Line S × ℕ) Fault
   after_end = end_rest S
 
   -- at the start only an order is allowed
-  pub start_same : (text : List ℕ) (at : ℕ) → order_at word text at ≡ form_at stamp_at word text room (record { stage = Start; next = at; atoms = atoms; rules = rules })
+  pub start_same : (text : List ℕ) (at : ℕ) → order_at kind.word text at ≡ form_at kind.stamp_at kind.word text room (record { stage = Start; next = at; atoms = atoms; rules = rules })
   unfolding form_at refused_at order_at
   start_same text at =
       let bytes = drop at text in
       one_by _ _ (begins order_opening bytes) (begins atom_opening bytes) (begins rule_opening bytes) (begins void_opening bytes) (begins end_opening bytes) (word_refused order_opening text at _)
 
   -- among rules a form is told by its second byte
-  pub rules_same : (text : List ℕ) (at : ℕ) → and_then (pass_at 40 text at) (λ m. cond (is_byte 114 (slice_get text m)) (after_rule at text m) (cond (is_byte 118 (slice_get text m)) (after_void at text m) (after_end text m))) ≡ form_at stamp_at word text room (record { stage = Rules; next = at; atoms = atoms; rules = rules })
+  pub rules_same : (text : List ℕ) (at : ℕ) → and_then (pass_at 40 text at) (λ m. cond (is_byte 114 (slice_get text m)) (after_rule at text m) (cond (is_byte 118 (slice_get text m)) (after_void at text m) (after_end text m))) ≡ form_at kind.stamp_at kind.word text room (record { stage = Rules; next = at; atoms = atoms; rules = rules })
   unfolding form_at refused_at agrees_to rule_form_at void_at end_at
   rules_same text at =
       let m = at + 1 in
@@ -298,7 +305,7 @@ module _ {S : Type 0} (stamp_at : List ℕ → ℕ → Result (S × ℕ) Fault) 
       ∙ table_same _ _ _ _ _ _ _ _ _ _ _ _ (kind_at text at) place place (sym (word_first 40 _ text at _)) (sym (word_first 40 _ text at _)) (sym (word_first 40 _ text at _))
 
   -- and among atoms too
-  pub atoms_same : (text : List ℕ) (at : ℕ) → and_then (pass_at 40 text at) (λ m. cond (is_byte 97 (slice_get text m)) (after_atom at text m) (cond (is_byte 114 (slice_get text m)) (after_rule at text m) (cond (is_byte 118 (slice_get text m)) (after_void at text m) (after_end text m)))) ≡ form_at stamp_at word text room (record { stage = Atoms; next = at; atoms = atoms; rules = rules })
+  pub atoms_same : (text : List ℕ) (at : ℕ) → and_then (pass_at 40 text at) (λ m. cond (is_byte 97 (slice_get text m)) (after_atom at text m) (cond (is_byte 114 (slice_get text m)) (after_rule at text m) (cond (is_byte 118 (slice_get text m)) (after_void at text m) (after_end text m)))) ≡ form_at kind.stamp_at kind.word text room (record { stage = Atoms; next = at; atoms = atoms; rules = rules })
   unfolding form_at refused_at agrees_to atom_at rule_form_at void_at end_at
   atoms_same text at =
       let m = at + 1 in

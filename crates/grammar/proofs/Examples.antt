@@ -32,6 +32,7 @@ zeros_not_plain_lem h =
 bare_plain_lem : SpeltBy ticks plain two bare
 bare_plain_lem = subst (SpeltBy ticks plain two) two_written (accepted_comes_back_lem ticks lawful_ticks zeros 2 2 two zeros_read_lem).canonical
 
+-- each line of the record
 pub examples_hold_lem : ExamplesHold
 unfolding book_at progress_at form_at order_at atom_at rule_form_at void_at end_at refused_at open_at onward_at number_at body_at rule_at aisles_at turns pass_word agrees_to
 examples_hold_lem =

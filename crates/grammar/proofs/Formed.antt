@@ -29,7 +29,7 @@ Known site v c n piece = Kept c (leb site.atoms v ≡ false) × ((n ≡ v) × (p
 -- the head of a rule
 pub head_agrees : (site : Site) → Agrees (λ text at. head_at text site at) (λ c n text. Declared c site.atoms n text) NoDigit
 head_agrees site =
-    agrees_as _ _ _ NoDigit to from
+    agrees_as to from
     (agrees_then (λ text at. number_at text at largest) (λ at v text m. cond (leb site.atoms v) (Err (Reading (AtomMissing site.rule 0))) (Ok (v, m)))
     (λ c v piece. Numeral c largest v piece) (Known site) NoDigit NoDigit (number_agrees largest)
     (λ at v. agrees_unless (Reading (AtomMissing site.rule 0)) tt (λ text m. Ok (v, m)) (λ c n piece. (n ≡ v) × (piece ≡ [])) NoDigit (agrees_done v NoDigit) (leb site.atoms v))
@@ -71,10 +71,11 @@ module _ {Y : Type 0} (expected : ℕ) (K : List ℕ → ℕ → Result (Y × �
       by_test false = refl
   next_same text at (Err e) = refl
 
+  -- a reader after a line's number agrees with its pieces after that number
   pub numbered_then : Agrees (λ text at. and_then (next_number text expected at) (K text)) (λ c y. Followed (Numbered c expected) (G c y)) Stop
   numbered_then =
-      agrees_same _ _ _ Stop (λ text at. next_same text at (number_at text at largest))
-      (agrees_as _ (Via Spelt Next) _ Stop next_to next_from
+      agrees_same (λ text at. next_same text at (number_at text at largest))
+      (agrees_as next_to next_from
       (agrees_then (λ text at. number_at text at largest) (λ at v text m. cond (eqb v expected) (K text m) (Err (Reading (Number at)))) Spelt Next NoDigit Stop (number_agrees largest)
       (λ at v. agrees_if (Reading (Number at)) tt K G Stop a (eqb v expected))
       (λ c v y piece rest h s. starts c y piece rest h.1)))
@@ -85,20 +86,20 @@ Kinds c k piece = Followed (Exactly out_word) (λ p. (k ≡ false) × (p ≡ [])
 -- a reading or not
 pub kind_agrees : Agrees (λ text at. reading_at text at) (λ c k piece. Exactly (cond k in_word out_word) piece) Any
 kind_agrees =
-    agrees_as _ _ _ Any to from
+    agrees_as to from
     (agrees_choice 111 (λ text at. and_then (pass_word out_word text at) (λ next. Ok (false, next))) (λ text at. and_then (pass_word in_word text at) (λ next. Ok (true, next))) _ _ Any
     (word_then out_word (λ text at. Ok (false, at)) (λ c k p. (k ≡ false) × (p ≡ [])) Any (agrees_done false Any))
     (word_then in_word (λ text at. Ok (true, at)) (λ c k p. (k ≡ true) × (p ≡ [])) Any (agrees_done true Any))
-    (λ c k piece rest f. ap (is_byte 111) (first_of _ _ _ piece rest f))
-    (λ c k piece rest f. ap (is_byte 111) (first_of _ _ _ piece rest f)))
+    (λ c k piece rest f. ap (is_byte 111) (first_of rest f))
+    (λ c k piece rest f. ap (is_byte 111) (first_of rest f)))
   where
     to : (c : Care) (k : Bool) (piece : List ℕ) → Kinds c k piece → Exactly (cond k in_word out_word) piece
-    to c k piece (inl f) = subst (λ b. Exactly (cond b in_word out_word) piece) (sym f.second.0) (ended (Exactly out_word) (k ≡ false) piece f)
-    to c k piece (inr f) = subst (λ b. Exactly (cond b in_word out_word) piece) (sym f.second.0) (ended (Exactly in_word) (k ≡ true) piece f)
+    to c k piece (inl f) = subst (λ b. Exactly (cond b in_word out_word) piece) (sym f.second.0) (ended f)
+    to c k piece (inr f) = subst (λ b. Exactly (cond b in_word out_word) piece) (sym f.second.0) (ended f)
 
     from : (c : Care) (k : Bool) (piece : List ℕ) → Exactly (cond k in_word out_word) piece → Kinds c k piece
-    from c true piece e = inr (unended (Exactly in_word) (true ≡ true) piece refl e)
-    from c false piece e = inl (unended (Exactly out_word) (false ≡ false) piece refl e)
+    from c true piece e = inr (unended refl e)
+    from c false piece e = inl (unended refl e)
 
 -- head, positives and negatives, each after a space
 abbrev pub Parts : Care → ℕ → Rule → List ℕ → Type 0
@@ -141,7 +142,7 @@ module _ (site : Site) where
       let p = g.second in
       let k = p.parts.second in
       let n = k.second in
-      let body = ended (Bodied c n.value) (r ≡ made h.value p.value n.value) k.back n.parts in
+      let body = ended n.parts in
       let six : Followed (Exactly space) (Bodied c n.value) p.parts.back = onto k body in
       let five : Followed (Bodied c p.value) (Followed (Exactly space) (Bodied c n.value)) g.back = onto p.parts six in
       let four : Followed (Exactly space) (Followed (Bodied c p.value) (Followed (Exactly space) (Bodied c n.value))) h.parts.back = onto g five in
@@ -154,15 +155,16 @@ module _ (site : Site) where
       let k = g.second in
       let p = k.second in
       let j = p.second in
-      let negatives : Via Bodied (Last r.head r.positives) c r j.back = record { value = r.negatives; parts = unended (Bodied c r.negatives) (r ≡ r) j.back refl j.second } in
+      let negatives : Via Bodied (Last r.head r.positives) c r j.back = record { value = r.negatives; parts = unended refl j.second } in
       let positives : Via Bodied (Negatives r.head) c r k.back = record { value = r.positives; parts = onto p (onto j negatives) } in
       let head : Via Headed Positives c r f.back = record { value = r.head; parts = onto g (onto k positives) } in
       onto f head
 
+  -- reading a rule is reading its head and its two lists, each after a space
   pub rule_agrees : Agrees (λ text at. rule_at text site at) (λ c r text. Parts c site.atoms r text) Any
   unfolding rule_at
   rule_agrees =
-      agrees_as _ _ _ Any parts_to parts_from
+      agrees_as parts_to parts_from
       (byte_then 32 _ (Via Headed Positives) Any
       (agrees_then (λ text at. head_at text site at) (λ at h text m. and_then (pass_at 32 text m) (λ b. and_then (body_at text site 0 b) (λ p. and_then (pass_at 32 text p.1) (λ k. and_then (body_at text site (length p.0) k) (λ n. Ok (made h p.0 n.0, n.1)))))) Headed Positives NoDigit Any (head_agrees site) (λ at h. positives_agree h)
-      (λ c h r piece rest g s. ap digit_of (first_of _ _ _ piece rest g))))
+      (λ c h r piece rest g s. ap digit_of (first_of rest g))))

@@ -24,7 +24,7 @@ use Rattle.grammar.proofs.Keeping.{kept_map}
 
 -- where a piece begins with a byte that is no digit
 pub starts : (b : ℕ) (word : List ℕ) (A : List ℕ → Type 0) (piece rest : List ℕ) → digit_of (Some b) ≡ None → Followed (Exactly (b ∷ word)) A piece → NoDigit (piece ++ rest)
-starts b word A piece rest e f = ap digit_of (first_of _ _ _ piece rest f) ∙ e
+starts b word A piece rest e f = ap digit_of (first_of rest f) ∙ e
 
 module _ (S : Type 0) (room : Counts) (atoms rules : ℕ) where
   -- the end of a form that says this
@@ -48,19 +48,20 @@ module _ (S : Type 0) (room : Counts) (atoms rules : ℕ) where
   rule_to c y text (k, f) =
       let v = f.second in
       let g = v.parts in
-      (v.value, g.second.second.0, kept_map c (leb-false room.rules rules) k, onto f (onto g (ended (Exactly closing) (y ≡ rule_line (Some v.value)) g.back g.second)))
+      (v.value, g.second.second.0, kept_map c (leb-false room.rules rules) k, onto f (onto g (ended g.second)))
 
   rule_from : (c : Care) (y : Line S) (text : List ℕ) → RuleRest c y text → Kept c (leb room.rules rules ≡ false) × Followed (Numbered c rules) (RuleSaid c y) text
   rule_from c y text (r, e, k, f) =
       let g = f.second in
-      (kept_map c (lt-leb room.rules rules) k, onto f (record { value = r; parts = onto g (unended (Exactly closing) (y ≡ rule_line (Some r)) g.back e g.second) }))
+      (kept_map c (lt-leb room.rules rules) k, onto f (record { value = r; parts = onto g (unended e g.second) }))
 
   said_stops : (c : Care) (y : Line S) (piece rest : List ℕ) → RuleSaid c y piece → NoDigit (piece ++ rest)
-  said_stops c y piece rest v = ap digit_of (first_of _ _ _ piece rest (ungroup _ _ _ piece v.parts))
+  said_stops c y piece rest v = ap digit_of (first_of rest (ungroup v.parts))
 
+  -- a rule agrees, from its number on
   pub rule_rest_agrees : (at : ℕ) → Agrees (rule_rest S room atoms rules at) RuleRest Any
   rule_rest_agrees at =
-      agrees_as (rule_rest S room atoms rules at) _ RuleRest Any rule_to rule_from
+      agrees_as rule_to rule_from
       (agrees_unless (Reading (TooMany at)) tt _ (λ c y. Followed (Numbered c rules) (RuleSaid c y)) Any
       (numbered_then rules (λ text b. and_then (rule_at text (record { form = at; rule = rules; atoms = atoms }) b) (λ p. and_then (pass_word closing text p.1) (λ next. Ok (rule_line (Some p.0), next)))) RuleSaid Any
       (agrees_then (λ text b. rule_at text (record { form = at; rule = rules; atoms = atoms }) b) (λ b r text m. and_then (pass_word closing text m) (λ next. Ok (rule_line (Some r), next))) (λ c r text. Parts c atoms r text) (λ r. Closed (rule_line (Some r))) Any Any (rule_agrees (record { form = at; rule = rules; atoms = atoms })) (λ b r. closed_agrees (rule_line (Some r))) (λ c r y piece rest g s. tt))
@@ -73,15 +74,16 @@ module _ (S : Type 0) (room : Counts) (atoms rules : ℕ) where
 
   void_to : (c : Care) (y : Line S) (text : List ℕ) → Kept c (leb room.rules rules ≡ false) × Followed (Numbered c rules) (Closed (rule_line None) c y) text → VoidRest c y text
   void_to c y text (k, f) =
-      (f.second.second.0, kept_map c (leb-false room.rules rules) k, onto f (ended (Exactly closing) (y ≡ rule_line None) f.back f.second))
+      (f.second.second.0, kept_map c (leb-false room.rules rules) k, onto f (ended f.second))
 
   void_from : (c : Care) (y : Line S) (text : List ℕ) → VoidRest c y text → Kept c (leb room.rules rules ≡ false) × Followed (Numbered c rules) (Closed (rule_line None) c y) text
   void_from c y text (e, k, f) =
-      (kept_map c (lt-leb room.rules rules) k, onto f (unended (Exactly closing) (y ≡ rule_line None) f.back e f.second))
+      (kept_map c (lt-leb room.rules rules) k, onto f (unended e f.second))
 
+  -- a vacant number agrees, from its number on
   pub void_rest_agrees : (at : ℕ) → Agrees (void_rest S room atoms rules at) VoidRest Any
   void_rest_agrees at =
-      agrees_as (void_rest S room atoms rules at) _ VoidRest Any void_to void_from
+      agrees_as void_to void_from
       (agrees_unless (Reading (TooMany at)) tt _ (λ c y. Followed (Numbered c rules) (Closed (rule_line None) c y)) Any
       (numbered_then rules (λ text b. and_then (pass_word closing text b) (λ next. Ok (rule_line None, next))) (Closed (rule_line None)) Any (closed_agrees (rule_line None)) (closed_stops (rule_line None)))
       (leb room.rules rules))
@@ -90,22 +92,24 @@ module _ (S : Type 0) (room : Counts) (atoms rules : ℕ) where
   abbrev pub EndRest : Care → Line S → List ℕ → Type 0
   EndRest c y text = (y ≡ end_line) × Exactly (codes "end)\n") text
 
+  -- the end form agrees, from the byte after its bracket
   pub end_rest_agrees : Agrees (end_rest S) EndRest Any
   end_rest_agrees =
-      agrees_as (end_rest S) _ EndRest Any to from
+      agrees_as to from
       (word_then end_word (λ text a. and_then (pass_at 10 text a) (λ next. Ok (end_line, next))) (λ c y. Followed (Exactly (10 ∷ [])) (λ p. (y ≡ end_line) × (p ≡ []))) Any
       (byte_then 10 (λ text m. Ok (end_line, m)) (λ c y p. (y ≡ end_line) × (p ≡ [])) Any (agrees_done end_line Any)))
     where
       to : (c : Care) (y : Line S) (text : List ℕ) → Followed (Exactly end_word) (Followed (Exactly (10 ∷ [])) (λ p. (y ≡ end_line) × (p ≡ []))) text → EndRest c y text
       to c y text f =
-          (f.second.second.0, f.whole ∙ ap (λ t. t ++ f.back) f.first ∙ ap (λ t. end_word ++ t) (ended (Exactly (10 ∷ [])) (y ≡ end_line) f.back f.second))
+          (f.second.second.0, f.whole ∙ ap (λ t. t ++ f.back) f.first ∙ ap (λ t. end_word ++ t) (ended f.second))
 
       from : (c : Care) (y : Line S) (text : List ℕ) → EndRest c y text → Followed (Exactly end_word) (Followed (Exactly (10 ∷ [])) (λ p. (y ≡ end_line) × (p ≡ []))) text
       from c y text (e, t) =
-          record { front = end_word; back = 10 ∷ []; whole = t; first = refl; second = unended (Exactly (10 ∷ [])) (y ≡ end_line) (10 ∷ []) e refl }
+          record { front = end_word; back = 10 ∷ []; whole = t; first = refl; second = unended e refl }
 
   -- an atom, from its number on
   module _ (stamp_at : List ℕ → ℕ → Result (S × ℕ) Fault) (spells : Care → S → List ℕ → Type 0) (stamps : Agrees stamp_at spells NoDigit) where
+    -- what the grammar has of an atom from its number on, where there is room for it
     abbrev pub AtomRest : Care → Line S → List ℕ → Type 0
     AtomRest c y text = (a : Atom S) × (y ≡ atom_line a) × Kept c (atoms < room.atoms) × Followed (Numbered c atoms) (Followed (Exactly (kind_text a.reading)) (Followed (spells c a.stamp) (Exactly closing))) text
 
@@ -131,12 +135,12 @@ module _ (S : Type 0) (room : Counts) (atoms rules : ℕ) where
 
     -- a space and the kind's word
     kind_to : (A : List ℕ → Type 0) (k : Bool) (piece : List ℕ) → Followed (Exactly (32 ∷ [])) (Followed (Exactly (cond k in_word out_word)) A) piece → Followed (Exactly (kind_text k)) A piece
-    kind_to A true piece f = word_to 32 in_word A piece f
-    kind_to A false piece f = word_to 32 out_word A piece f
+    kind_to A true piece f = word_to 32 in_word f
+    kind_to A false piece f = word_to 32 out_word f
 
     kind_from : (A : List ℕ → Type 0) (k : Bool) (piece : List ℕ) → Followed (Exactly (kind_text k)) A piece → Followed (Exactly (32 ∷ [])) (Followed (Exactly (cond k in_word out_word)) A) piece
-    kind_from A true piece f = word_from 32 in_word A piece f
-    kind_from A false piece f = word_from 32 out_word A piece f
+    kind_from A true piece f = word_from 32 in_word f
+    kind_from A false piece f = word_from 32 out_word f
 
     atom_to : (c : Care) (y : Line S) (text : List ℕ) → Kept c (leb room.atoms atoms ≡ false) × Followed (Numbered c atoms) (AtomSaid c y) text → AtomRest c y text
     atom_to c y text (k, f) =
@@ -145,7 +149,7 @@ module _ (S : Type 0) (room : Counts) (atoms rules : ℕ) where
         let w = v.parts.second in
         let h = w.parts in
         let a : Atom S = record { stamp = w.value; reading = v.value } in
-        let stamp : Followed (spells c w.value) (Exactly closing) v.parts.back = onto h (ended (Exactly closing) (y ≡ atom_line a) h.back h.second) in
+        let stamp : Followed (spells c w.value) (Exactly closing) v.parts.back = onto h (ended h.second) in
         let kind : Followed (Exactly (cond v.value in_word out_word)) (Followed (spells c w.value) (Exactly closing)) g.back = onto v.parts stamp in
         let spaced = kind_to (Followed (spells c w.value) (Exactly closing)) v.value f.back (onto g kind) in
         (a, h.second.second.0, kept_map c (leb-false room.atoms atoms) k, onto f spaced)
@@ -155,13 +159,14 @@ module _ (S : Type 0) (room : Counts) (atoms rules : ℕ) where
         let g = kind_from (Followed (spells c a.stamp) (Exactly closing)) a.reading f.back f.second in
         let h = g.second in
         let i = h.second in
-        let stamp : Stamped a.reading c y h.back = record { value = a.stamp; parts = onto i (unended (Exactly closing) (y ≡ atom_line a) i.back e i.second) } in
+        let stamp : Stamped a.reading c y h.back = record { value = a.stamp; parts = onto i (unended e i.second) } in
         let kind : Via Kinded Stamped c y g.back = record { value = a.reading; parts = onto h stamp } in
         (kept_map c (lt-leb room.atoms atoms) k, onto f (onto g kind))
 
+    -- an atom agrees, from its number on
     pub atom_rest_agrees : (at : ℕ) → Agrees (atom_rest S room atoms rules stamp_at at) AtomRest Any
     atom_rest_agrees at =
-        agrees_as (atom_rest S room atoms rules stamp_at at) _ AtomRest Any atom_to atom_from
+        agrees_as atom_to atom_from
         (agrees_unless (Reading (TooMany at)) tt _ (λ c y. Followed (Numbered c atoms) (AtomSaid c y)) Any
         (numbered_then atoms (λ text b. and_then (pass_at 32 text b) (λ c. and_then (reading_at text c) (λ k. and_then (stamp_at text k.1) (λ s. and_then (pass_word closing text s.1) (λ next. Ok (atom_line (record { stamp = s.0; reading = k.0 }), next)))))) AtomSaid Any said_agrees
         (λ c y piece rest g. starts 32 [] (Via Kinded Stamped c y) piece rest refl g))

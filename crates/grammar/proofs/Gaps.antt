@@ -1,9 +1,9 @@
 -- A book has no gaps exactly where it is small and each of its rules keeps the limits.
-use Rattle.std.proofs.Common.{◌≡◌, ℕ, zero, suc, ◌+◌, ◌<◌, ◌≤◌, Bool, true, false, cond, ◌||◌, ltb, List, [], ◌∷◌, ◌++◌, length, is_some, Some, None, Option, sym, refl, ap, ◌∙◌, subst, inl, inr, arith}
+use Rattle.std.proofs.Common.{◌≡◌, ℕ, zero, suc, ◌+◌, ◌<◌, ◌≤◌, Bool, true, false, cond, ◌||◌, ltb, List, [], ◌∷◌, ◌++◌, length, is_some, Some, None, Option, sym, refl, ap, ◌∙◌, subst, inl, inr, arith, get_or}
 use Rattle.std.proofs.ByRecursion.{All-append}
 use Rattle.std.proofs.lemmas.List.{length-append}
-use Rattle.std.proofs.lemmas.Option.{slice_get_past}
-use Rattle.std.proofs.lemmas.Bool.{cases_lt, or_from, cond-true, cond-false, le-ltb}
+use Rattle.std.proofs.lemmas.Option.{slice_get_past, slice_get_within, slice_get-get_or}
+use Rattle.std.proofs.lemmas.Bool.{cases_lt, cond-true}
 use Rattle.std.specs.List.{slice_get, AllByRecursion}
 use Rattle.std.specs.Option.{option_map, option_and_then, option_flatten}
 use Rattle.books.proofs.First.{first_none, first_all, within}
@@ -15,6 +15,8 @@ use Rattle.books.specs.declared.fault.CheckFault.TheVariants.{BodyTooLong, HeadM
 use Rattle.text.specs.Spelt.{body_in}
 use Rattle.writing.proofs.Gapless.{small_atoms, small_rules, few_everywhere}
 use Rattle.writing.specs.Writes.{missing, literal_gap, rule_gap, book_gap}
+use Rattle.books.proofs.Places.{all_slice_get, slice_get_all}
+use Rattle.std.proofs.lemmas.Bool.Decides.{nat_tests}
 
 -- a rule that keeps the limits in a book of so many atoms
 pub record GaplessRule (atoms : ℕ) (r : Rule) : Type 0 where
@@ -32,24 +34,15 @@ GaplessRow atoms (Some r) = GaplessRule atoms r
 -- no fault comes of a choice only where the choice is the one without it
 passes : {X : Type 0} (b : Bool) (x : X) (o : Option X) → cond b o (Some x) ≡ None → (b ≡ true) × (o ≡ None)
 passes true x o e = (refl, e)
-passes false x o e = let z : ◌≡◌ {A = ℕ} 0 1 = cc in absurd (omega arith)
+passes false x o e = absurd (grind arith)
 
 -- bodies that are short enough go on to what comes after them
 short_on : {X : Type 0} (a b : ℕ) (x y : X) → a ≤ 6 → b ≤ 6 → cond (ltb 6 a || ltb 6 b) x y ≡ y
-short_on a b x y ha hb = cond-false _ x y (or_from (ltb 6 a) (ltb 6 b) (le-ltb 6 a ha) (le-ltb 6 b hb))
+short_on a b x y ha hb = grind (arith, nat_tests)
 
 all_parts : {X : Type 0} (P : X → Type 0) (xs ys : List X) → AllByRecursion P (xs ++ ys) → AllByRecursion P xs × AllByRecursion P ys
 all_parts P [] ys h = (tt, h)
 all_parts P (x ∷ xs) ys h = let rest = all_parts P xs ys h.1 in ((h.0, rest.0), rest.1)
-
-each_rule_lem : (P : Option Rule → Type 0) (os : List (Option Rule)) → ((k : ℕ) → k < length os → P (option_flatten (slice_get os k))) → AllByRecursion P os
-each_rule_lem P [] h = tt
-each_rule_lem P (o ∷ os) h = (h 0 (omega arith), each_rule_lem P os (λ k l. h (suc k) (omega arith)))
-
-rule_of_lem : (P : Option Rule → Type 0) (os : List (Option Rule)) (k : ℕ) → k < length os → AllByRecursion P os → P (option_flatten (slice_get os k))
-rule_of_lem P [] k l h = absurd (omega arith)
-rule_of_lem P (o ∷ os) zero l h = h.0
-rule_of_lem P (o ∷ os) (suc k) l h = rule_of_lem P os k (omega arith) h.1
 
 is_there : {S : Type 0} (xs : List (Atom S)) (a : ℕ) → a < length xs → is_some (option_map (λ (x : Atom S). x.stamp) (slice_get xs a)) ≡ true
 is_there [] a l = absurd (omega arith)
@@ -57,6 +50,7 @@ is_there (x ∷ xs) zero l = refl
 is_there (x ∷ xs) (suc a) l = is_there xs a (omega arith)
 
 module _ {S : Type 0} (m : Meaning S) where
+  -- the atoms of the book
   abbrev pub count : ℕ
   count = length m.atoms
 
@@ -67,8 +61,7 @@ module _ {S : Type 0} (m : Meaning S) where
         | inl below ↦ below
         | inr past ↦
             let none : slice_get m.atoms a ≡ None = slice_get_past m.atoms a past in
-            let z : ◌≡◌ {A = ℕ} 0 1 = cc in
-            absurd (omega arith)
+            absurd (grind arith)
       ]
 
   literals_below : (fault : ℕ → CheckFault) (ns : List ℕ) → ((i : ℕ) → i < length ns → option_and_then (missing m (fault i)) (slice_get ns i) ≡ None) → AllByRecursion (λ n. n < count) ns
@@ -123,7 +116,7 @@ module _ {S : Type 0} (m : Meaning S) where
   pub gap_rules : book_gap m ≡ None → AllByRecursion (GaplessRow count) m.rules
   gap_rules e =
       let rest = sym (within (length m.atoms) (length m.rules) _ _ (small_atoms m e) (small_rules m e)) ∙ e in
-      each_rule_lem (GaplessRow count) m.rules (λ k l. gapless_in e k (rule_at m k) refl (first_none (rule_gap m) (length m.rules) rest k l))
+      all_slice_get (GaplessRow count) m.rules (λ k o at. subst (GaplessRow count) (ap option_flatten at) (gapless_in e k (rule_at m k) refl (first_none (rule_gap m) (length m.rules) rest k (slice_get_within m.rules k o at))))
 
   literals_gapless : (k : ℕ) (r : Rule) → rule_at m k ≡ Some r → GaplessRule count r → (i : ℕ) → literal_gap m k i ≡ None
   literals_gapless k r is s i =
@@ -141,4 +134,6 @@ module _ {S : Type 0} (m : Meaning S) where
   pub rules_gapless : length m.atoms ≤ 1024 → length m.rules ≤ 1024 → AllByRecursion (GaplessRow count) m.rules → book_gap m ≡ None
   rules_gapless a b s =
       within (length m.atoms) (length m.rules) _ _ a b
-      ∙ first_all (rule_gap m) (length m.rules) (λ k l. gap_none k (rule_at m k) refl (rule_of_lem (GaplessRow count) m.rules k l s))
+      ∙ first_all (rule_gap m) (length m.rules) (λ k l.
+      let at = slice_get-get_or m.rules k None l in
+      gap_none k (rule_at m k) refl (subst (GaplessRow count) (sym (ap option_flatten at)) (slice_get_all (GaplessRow count) m.rules s k (get_or m.rules k None) at)))

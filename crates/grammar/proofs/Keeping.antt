@@ -5,10 +5,12 @@ use Rattle.books.specs.Meaning.{Rule, Atom, Meaning}
 use Rattle.stamps.specs.declared.route.Route.{Route}
 use Rattle.stamps.specs.declared.then.Then.{Then}
 use Rattle.stamps.specs.declared.tick.Tick.{Tick}
-use Rattle.grammar.specs.Grammar.{Numbered, Declared, Body, RuleForm, AtomForms, RuleForms, Spells}
+use Rattle.grammar.specs.Grammar.{Numbered, Declared, Body, RuleForm, AtomForms, RuleForms}
 use Rattle.grammar.specs.Pieces.{Care, shape, kept, plain, Kept, Plainly, largest, Numeral, Spaced, Listed}
 use Rattle.grammar.specs.Stamps.{TickSpelt, PairSpelt, RouteSpelt}
 use Rattle.grammar.proofs.Following.{under, followed_map}
+use Rattle.grammar.specs.Notations.{Notation}
+use Rattle.grammar.specs.Theorems.{SpeltBy}
 
 -- a rule that follows from one that is kept
 pub kept_map : {P Q : Type 0} (c : Care) → (P → Q) → Kept c P → Kept c Q
@@ -75,8 +77,8 @@ module _ {c d : Care} (e : Eases c d) where
   spaced_under limit other [] text k h = h
   spaced_under limit other (n ∷ []) text k h = numeral_under limit other n text (kept_map d (λ a. a.0) k) h
   spaced_under limit other (n ∷ m ∷ ns) text k h =
-      followed_map _ _ _ _ text (λ t. numeral_under limit other n t (kept_map d (λ a. a.0) k))
-      (λ t. under _ _ _ t (λ u. spaced_under limit other (m ∷ ns) u (kept_map d (λ a. a.1) k))) h
+      followed_map (λ t. numeral_under limit other n t (kept_map d (λ a. a.0) k))
+      (λ t. under (λ u. spaced_under limit other (m ∷ ns) u (kept_map d (λ a. a.1) k))) h
 
   -- the numbers of a list
   pub spaced_eased : (limit : ℕ) (ns text : List ℕ) → Spaced c limit ns text → Spaced d limit ns text
@@ -84,7 +86,7 @@ module _ {c d : Care} (e : Eases c d) where
 
   -- a list, at any limit that its numbers are within
   pub list_under : (limit other : ℕ) (ns text : List ℕ) → Kept d (AllByRecursion (λ n. n ≤ other) ns) → Listed c limit ns text → Listed d other ns text
-  list_under limit other ns text k h = under _ _ _ text (λ t. followed_map _ _ _ _ t (λ u. spaced_under limit other ns u k) (λ u w. w)) h
+  list_under limit other ns text k h = under (λ t. followed_map (λ u. spaced_under limit other ns u k) (λ u w. w)) h
 
   list_eased : (limit : ℕ) (ns text : List ℕ) → Listed c limit ns text → Listed d limit ns text
   list_eased limit ns text h = list_under limit limit ns text (e.kept _ (list_within c limit ns text h)) h
@@ -96,9 +98,9 @@ module _ {c d : Care} (e : Eases c d) where
   -- a pair of ticks
   pub pair_eased : (p : Then Tick Tick) (text : List ℕ) → PairSpelt c p text → PairSpelt d p text
   pair_eased p text h =
-      under _ _ _ text
-      (λ t. followed_map _ _ _ _ t (tick_eased p.first)
-      (λ t. under _ _ _ t (λ t. followed_map _ _ _ _ t (tick_eased p.second) (λ u w. w)))) h
+      under
+      (λ t. followed_map (tick_eased p.first)
+      (λ t. under (λ t. followed_map (tick_eased p.second) (λ u w. w)))) h
 
   -- a route
   pub route_eased : (r : Route) (text : List ℕ) → RouteSpelt c r text → RouteSpelt d r text
@@ -114,34 +116,34 @@ module _ {c d : Care} (e : Eases c d) where
   body_eased atoms ns text h = record { listed = list_eased largest ns text h.listed; few = e.kept _ h.few; declared = e.kept _ h.declared }
 
   rule_eased : (atoms k : ℕ) (o : Option Rule) (text : List ℕ) → RuleForm c atoms k o text → RuleForm d atoms k o text
-  rule_eased atoms k None text h = under _ _ _ text (λ t. followed_map _ _ _ _ t (numbered_eased k) (λ u w. w)) h
+  rule_eased atoms k None text h = under (λ t. followed_map (numbered_eased k) (λ u w. w)) h
   rule_eased atoms k (Some r) text h =
-      under _ _ _ text
-      (λ t. followed_map _ _ _ _ t (numbered_eased k)
-      (λ t. under _ _ _ t
-      (λ t. followed_map _ _ _ _ t (declared_eased atoms r.head)
-      (λ t. under _ _ _ t
-      (λ t. followed_map _ _ _ _ t (body_eased atoms r.positives)
-      (λ t. under _ _ _ t
-      (λ t. followed_map _ _ _ _ t (body_eased atoms r.negatives) (λ u w. w)))))))) h
+      under
+      (λ t. followed_map (numbered_eased k)
+      (λ t. under
+      (λ t. followed_map (declared_eased atoms r.head)
+      (λ t. under
+      (λ t. followed_map (body_eased atoms r.positives)
+      (λ t. under
+      (λ t. followed_map (body_eased atoms r.negatives) (λ u w. w)))))))) h
 
   rules_eased : (atoms k : ℕ) (os : List (Option Rule)) (text : List ℕ) → RuleForms c atoms k os text → RuleForms d atoms k os text
   rules_eased atoms k [] text h = h
-  rules_eased atoms k (o ∷ os) text h = followed_map _ _ _ _ text (rule_eased atoms k o) (rules_eased atoms (k + 1) os) h
+  rules_eased atoms k (o ∷ os) text h = followed_map (rule_eased atoms k o) (rules_eased atoms (k + 1) os) h
 
-  module _ {S : Type 0} (word : List ℕ) (spells : Care → S → List ℕ → Type 0) (stamp_eased : (s : S) (text : List ℕ) → spells c s text → spells d s text) where
-    atoms_eased : (i : ℕ) (xs : List (Atom S)) (text : List ℕ) → AtomForms spells c i xs text → AtomForms spells d i xs text
+  module _ {S : Type 0} (n : Notation S) (stamp_eased : (s : S) (text : List ℕ) → n.spells c s text → n.spells d s text) where
+    atoms_eased : (i : ℕ) (xs : List (Atom S)) (text : List ℕ) → AtomForms n.spells c i xs text → AtomForms n.spells d i xs text
     atoms_eased i [] text h = h
     atoms_eased i (a ∷ xs) text h =
-        followed_map _ _ _ _ text
-        (λ t. under _ _ _ t
-        (λ t. followed_map _ _ _ _ t (numbered_eased i)
-        (λ t. under _ _ _ t (λ t. followed_map _ _ _ _ t (stamp_eased a.stamp) (λ u w. w)))))
+        followed_map
+        (λ t. under
+        (λ t. followed_map (numbered_eased i)
+        (λ t. under (λ t. followed_map (stamp_eased a.stamp) (λ u w. w)))))
         (atoms_eased (i + 1) xs) h
 
     -- the text of a book, where it is so of the stamps
-    pub book_eased : (m : Meaning S) (text : List ℕ) → Spells word spells c m text → Spells word spells d m text
+    pub book_eased : (m : Meaning S) (text : List ℕ) → SpeltBy n c m text → SpeltBy n d m text
     book_eased m text h =
-        under _ _ _ text
-        (λ t. followed_map _ _ _ _ t (atoms_eased 0 m.atoms)
-        (λ t. followed_map _ _ _ _ t (rules_eased (length m.atoms) 0 m.rules) (λ u w. w))) h
+        under
+        (λ t. followed_map (atoms_eased 0 m.atoms)
+        (λ t. followed_map (rules_eased (length m.atoms) 0 m.rules) (λ u w. w))) h

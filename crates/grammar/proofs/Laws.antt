@@ -4,22 +4,19 @@ use Rattle.books.specs.Check.{book_fault, unless}
 use Rattle.books.specs.Meaning.{Meaning}
 use Rattle.books.specs.declared.fault.Fault.{Fault}
 use Rattle.text.specs.Bytes.{and_then}
-use Rattle.text.specs.Forms.{form_at}
 use Rattle.text.specs.Reads.{room_of}
 use Rattle.text.specs.declared.counts.Counts.{Counts}
-use Rattle.text.specs.declared.reader.Stage.{Stage}
 use Rattle.writing.specs.Replies.{checked_text, canonical_at}
 use Rattle.writing.specs.Writes.{book_gap, write_answer}
-use Rattle.grammar.specs.Agreement.{Agrees, NoDigit}
+use Rattle.grammar.specs.Agreement.{NoDigit}
 use Rattle.grammar.specs.Notations.{Notation, ticks, routes, pairs}
 use Rattle.grammar.specs.Pieces.{kept}
 use Rattle.grammar.specs.Theorems.{read_as, written_of, ReadingIsTheGrammar, WrittenIsReadBack, AcceptedComesBack, CanonicalIsUnchanged, DegreesNest, AnswerIsItsOwn, RefusedAtTheFirstByte}
-use Rattle.grammar.proofs.Agreeing.{Any, agrees_before}
+use Rattle.grammar.proofs.Agreeing.{agrees_before}
 use Rattle.grammar.proofs.Aisled.{route_agrees}
 use Rattle.grammar.proofs.Books.{book_canonical, book_unique, spelt_held, spelt_gapless}
 use Rattle.grammar.proofs.Canonical.{tick_canonical, tick_unique, tick_fits, pair_canonical, pair_unique, pair_fits}
-use Rattle.grammar.proofs.Lines.{FormAt}
-use Rattle.grammar.proofs.Rests.{Going}
+use Rattle.grammar.proofs.Lines.{FormsAgree}
 use Rattle.grammar.proofs.Routes.{route_canonical, route_unique, route_fits}
 use Rattle.grammar.proofs.Staged.{forms_agree}
 use Rattle.grammar.proofs.Stamped.{tick_agrees, pair_agrees}
@@ -27,6 +24,7 @@ use Rattle.grammar.proofs.Whole.{book_seen, book_reads, book_viable, book_none}
 use Rattle.grammar.proofs.Keeping.{plain_to_kept, to_shape, tick_eased, pair_eased, route_eased, book_eased}
 use Rattle.grammar.specs.Lawful.{Lawful}
 
+-- ticks keep what is asked of a kind
 pub lawful_ticks : Lawful ticks
 lawful_ticks =
     record {
@@ -37,20 +35,22 @@ lawful_ticks =
       plainly = tick_eased plain_to_kept;
     }
 
+-- and pairs of ticks
 pub lawful_pairs : Lawful pairs
 lawful_pairs =
     record {
-      agrees = agrees_before _ _ _ NoDigit (λ rest h. tt) pair_agrees;
+      agrees = agrees_before (λ rest h. tt) pair_agrees;
       canonical = λ p h. pair_canonical p (omega (arith, h.0)) (omega (arith, h.1));
       unique = pair_unique;
       held = λ p text h. let f = pair_fits p text h in (omega (arith, f.0), omega (arith, f.1));
       plainly = pair_eased plain_to_kept;
     }
 
+-- and routes
 pub lawful_routes : Lawful routes
 lawful_routes =
     record {
-      agrees = agrees_before _ _ _ NoDigit (λ rest h. tt) route_agrees;
+      agrees = agrees_before (λ rest h. tt) route_agrees;
       canonical = route_canonical;
       unique = route_unique;
       held = route_fits;
@@ -58,57 +58,63 @@ lawful_routes =
     }
 
 module _ {S : Type 0} (n : Notation S) (l : Lawful n) where
-  forms : (room : Counts) (stage : Stage) → Going stage → (atoms rules : ℕ) → Agrees (λ text at. form_at n.stamp_at n.word text room (record { stage = stage; next = at; atoms = atoms; rules = rules })) (FormAt n.word n.spells room stage atoms rules) Any
-  forms room stage g atoms rules = forms_agree n.stamp_at n.word n.spells room l.agrees atoms rules stage g
+  forms : (room : Counts) → FormsAgree n room
+  forms room stage g atoms rules = forms_agree n room l.agrees atoms rules stage g
 
+  -- a text is read as a book exactly where it spells it and the tables take it
   pub reading_is_the_grammar_lem : ReadingIsTheGrammar n
   reading_is_the_grammar_lem text atoms rules m =
       let room = room_of atoms rules in
       record {
-        spelling = λ e. (book_seen n.stamp_at n.word n.spells room (forms room) text m e).0;
-        takes = λ e. let b = book_seen n.stamp_at n.word n.spells room (forms room) text m e in record { few_atoms = b.1; few_rules = b.2 };
-        reads = λ h t. elim (book_reads n.stamp_at n.word n.spells room (forms room) kept text m h (t.few_atoms, t.few_rules)) [ inl e ↦ e | inr z ↦ absurd z.0 ];
+        spelling = λ e. (book_seen n room (forms room) text m e).0;
+        takes = λ e. let b = book_seen n room (forms room) text m e in record { few_atoms = b.1; few_rules = b.2 };
+        reads = λ h t. elim (book_reads n room (forms room) kept text m h (t.few_atoms, t.few_rules)) [ inl e ↦ e | inr z ↦ absurd z.0 ];
       }
 
+  -- a book that is written is read back
   pub written_is_read_back_lem : WrittenIsReadBack n
   written_is_read_back_lem atoms rules m gapless held takes =
-      let spelt = book_canonical n.word n.spells n.spelt n.Fits l.canonical m gapless held in
-      (reading_is_the_grammar_lem (written_of n m) atoms rules m).reads (book_eased plain_to_kept n.word n.spells l.plainly m (written_of n m) spelt) takes
+      let spelt = book_canonical n l.canonical m gapless held in
+      (reading_is_the_grammar_lem (written_of n m) atoms rules m).reads (book_eased plain_to_kept n l.plainly m (written_of n m) spelt) takes
 
+  -- the book of an accepted text can be written, and comes back
   pub accepted_comes_back_lem : AcceptedComesBack n
   accepted_comes_back_lem text atoms rules m e =
       let laws = reading_is_the_grammar_lem text atoms rules m in
       let spelt = laws.spelling e in
       let takes = laws.takes e in
-      let gapless = spelt_gapless n.word n.spells n.spelt n.Fits m text spelt (omega (arith, takes.few_atoms)) (omega (arith, takes.few_rules)) in
-      let held = spelt_held n.word n.spells n.spelt n.Fits l.held m text spelt in
+      let gapless = spelt_gapless n m text spelt (omega (arith, takes.few_atoms)) (omega (arith, takes.few_rules)) in
+      let held = spelt_held n l.held m text spelt in
       record {
         written = gapless;
         held = held;
-        canonical = book_canonical n.word n.spells n.spelt n.Fits l.canonical m gapless held;
+        canonical = book_canonical n l.canonical m gapless held;
         same = written_is_read_back_lem atoms rules m gapless held takes;
       }
 
+  -- a text without leading zeros is read as its book, and is what is written of it
   pub canonical_is_unchanged_lem : CanonicalIsUnchanged n
   canonical_is_unchanged_lem text m h =
       record {
-        read = λ atoms rules takes. (reading_is_the_grammar_lem text atoms rules m).reads (book_eased plain_to_kept n.word n.spells l.plainly m text h) takes;
-        written = sym (book_unique n.word n.spells n.spelt n.Fits l.unique m text h);
+        read = λ atoms rules takes. (reading_is_the_grammar_lem text atoms rules m).reads (book_eased plain_to_kept n l.plainly m text h) takes;
+        written = sym (book_unique n l.unique m text h);
       }
 
+  -- each degree of care keeps what the lower one keeps
   pub degrees_nest : DegreesNest n
   degrees_nest m text =
       record {
-        plainly = book_eased plain_to_kept n.word n.spells l.plainly m text;
-        shapely = book_eased (to_shape kept) n.word n.spells (λ s t. l.agrees.shaped kept s t) m text;
+        plainly = book_eased plain_to_kept n l.plainly m text;
+        shapely = book_eased (to_shape kept) n (λ s t. l.agrees.shaped kept s t) m text;
       }
 
   -- where a book is checked and written, its text is what is answered
   written_answer : (m : Meaning S) (checked : Result (Unit {0}) Fault) (written : Result ℕ Fault) (answer : List ℕ) → and_then checked (λ _. and_then written (λ _. Ok (written_of n m))) ≡ Ok answer → answer ≡ written_of n m
-  written_answer m (Ok u) (Ok k) answer e = let same : written_of n m ≡ answer = cc in sym same
-  written_answer m (Ok u) (Err f) answer e = let z : ◌≡◌ {A = ℕ} 0 1 = cc in absurd (omega arith)
-  written_answer m (Err f) written answer e = let z : ◌≡◌ {A = ℕ} 0 1 = cc in absurd (omega arith)
+  written_answer m (Ok u) (Ok k) answer e = grind arith
+  written_answer m (Ok u) (Err f) answer e = absurd (grind arith)
+  written_answer m (Err f) written answer e = absurd (grind arith)
 
+  -- what is answered to a text is answered to that answer
   pub answer_is_its_own : AnswerIsItsOwn n
   answer_is_its_own tests text answer atoms rules room e = by_book (read_as n text atoms rules) refl e
     where
@@ -117,14 +123,15 @@ module _ {S : Type 0} (n : Notation S) (l : Lawful n) where
           let same = written_answer m (unless (book_fault tests m)) (write_answer (book_gap m) (length (written_of n m)) room) answer h in
           let again : read_as n answer atoms rules ≡ Ok m = ap (λ t. read_as n t atoms rules) same ∙ (accepted_comes_back_lem text atoms rules m read).same in
           ap (λ r. and_then r (λ m. checked_text n.word n.spelt tests m room)) again ∙ h
-      by_book (Err f) read h = let z : ◌≡◌ {A = ℕ} 0 1 = cc in absurd (omega arith)
+      by_book (Err f) read h = absurd (grind arith)
 
+  -- a byte is refused where no text of the shape goes on with it
   pub refused_at_the_first_byte_lem : RefusedAtTheFirstByte n
   refused_at_the_first_byte_lem text atoms rules k e =
       let room = room_of atoms rules in
-      let viable = book_viable n.stamp_at n.word n.spells room (forms room) text k e in
+      let viable = book_viable n room (forms room) text k e in
       record {
         within = viable.0;
         before = (viable.1.0, (viable.1.1, viable.1.2));
-        none = λ below more (m, h). book_none n.stamp_at n.word n.spells room (forms room) text k e below more m h;
+        none = λ below more (m, h). book_none n room (forms room) text k e below more m h;
       }

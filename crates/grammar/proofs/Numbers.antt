@@ -3,7 +3,7 @@ use Rattle.std.proofs.Common.{◌≡◌, ℕ, zero, suc, ◌+◌, ◌-◌, ◌*�
 use Rattle.std.proofs.lemmas.Int.Digits.{digits_value_push, digits_push}
 use Rattle.std.proofs.lemmas.List.{append-nil, length_push}
 use Rattle.std.proofs.lemmas.Str.Parse.{digit_from_value, numerals_by_value, tells_digits, digits_value_short}
-use Rattle.std.proofs.lemmas.Bool.{le-leb, lt-ltb, le-ltb, eqb-true, eqb-false, ltb-true, ltb-false, leb-true, and_parts, cases_Bool, cond-true, cond-false, cases_lt}
+use Rattle.std.proofs.lemmas.Bool.{le-ltb, eqb-true, eqb-false, ltb-true, ltb-false, leb-true, and_parts, cases_Bool, cases_lt}
 use Rattle.std.specs.List.{slice_get}
 use Rattle.std.specs.Str.Parse.{AllDigits, digits_value}
 use Rattle.std.specs.Char.{digit_value}
@@ -17,19 +17,20 @@ use Rattle.grammar.specs.Agreement.{Same, Shared, Between, Seen, ShapeOnly, Read
 use Rattle.grammar.specs.Pieces.{Care, shape, kept, plain, Kept, Numeral}
 use Rattle.grammar.proofs.Places.{slice_get_front, between_join, between_none, between_one, drop_past}
 use Rattle.grammar.proofs.Keeping.{to_shape, numeral_eased}
+use Rattle.std.proofs.lemmas.Bool.Decides.{nat_tests}
 
 digit_value_is : (b : ℕ) → 48 ≤ b → b ≤ 57 → digit_value b ≡ b - 48
-digit_value_is b lo hi = rw (le-ltb b 48 lo, lt-ltb b 58 (omega arith)) refl
+digit_value_is b lo hi = grind (arith, nat_tests)
 
 -- a byte that the grammar has for a digit is one to the reader
 digit_read : (b : ℕ) → digit_value b < 10 → digit_of (Some b) ≡ Some (digit_value b)
 digit_read b h =
     let (lo, hi) = digit_from_value b h in
-    rw (le-leb 48 b lo, le-leb b 57 hi) (ap Some (sym (digit_value_is b lo hi)))
+    grind (arith, nat_tests, digit_value_is b lo hi)
 
 -- and the other way about
 digit_kept : (o : Option ℕ) (d : ℕ) → digit_of o ≡ Some d → ((b : ℕ) × (o ≡ Some b) × (digit_value b ≡ d) × (digit_value b < 10))
-digit_kept None d e = let z : ◌≡◌ {A = ℕ} 0 1 = cc in absurd (omega arith)
+digit_kept None d e = absurd (grind arith)
 digit_kept (Some b) d e =
     elim (cases_Bool (leb 48 b && leb b 57)) [
       | inl t ↦
@@ -37,12 +38,8 @@ digit_kept (Some b) d e =
           let lo = leb-true 48 b l in
           let hi = leb-true b 57 h in
           let v = digit_value_is b lo hi in
-          let f : Some (b - 48) ≡ Some d = sym (cond-true (leb 48 b && leb b 57) (Some (b - 48)) None t) ∙ e in
-          (b, refl, cc, omega arith)
-      | inr n ↦
-          let f : None ≡ Some d = sym (cond-false (leb 48 b && leb b 57) (Some (b - 48)) None n) ∙ e in
-          let z : ◌≡◌ {A = ℕ} 0 1 = cc in
-          absurd (omega arith)
+          (b, refl, grind (arith, t), omega arith)
+      | inr n ↦ absurd (grind (arith, n))
     ]
 
 -- the digits that k turns find: k of them, or fewer, and then no digit follows
@@ -82,7 +79,7 @@ run_more text at k run (Some d) e =
       digits = digits_push 10 run.piece b run.digits small;
       most = omega arith;
       found = ap (one_more text) run.found ∙ ap (grown (digits_value 10 run.piece, run.next)) e ∙ ap (λ (v : ℕ). (v, run.next + 1)) grows;
-      ended = λ l. let z = run.ended (omega arith) in let w : ◌≡◌ {A = ℕ} 0 1 = cc in absurd (omega arith);
+      ended = λ l. let z = run.ended (omega arith) in absurd (grind arith);
     }
 
 run : (text : List ℕ) (at k : ℕ) → Run text at k
@@ -147,7 +144,7 @@ naught limit = record { digits = (omega arith, tt); some = omega arith; few = om
 full : (text : List ℕ) (at k : ℕ) (run : Run text at k) (d : ℕ) → digit_at text run.next ≡ Some d → k ≤ length run.piece
 full text at k run d e =
     elim (cases_lt (length run.piece) k) [
-      | inl l ↦ let n = run.ended l in let z : ◌≡◌ {A = ℕ} 0 1 = cc in absurd (omega arith)
+      | inl l ↦ let n = run.ended l in absurd (grind arith)
       | inr l ↦ l
     ]
 
@@ -170,9 +167,7 @@ number_seen limit text at =
 no_digit : (b : ℕ) (o : Option ℕ) → digit_value b < 10 → o ≡ Some b → digit_of o ≡ None → ⊥
 no_digit b o h e n =
     let d = digit_read b h in
-    let f : digit_of o ≡ digit_of (Some b) = ap digit_of e in
-    let z : ◌≡◌ {A = ℕ} 0 1 = cc in
-    omega arith
+    grind (arith, ap digit_of e)
 
 -- two runs of digits at one place are one, where neither goes on beyond the other's end
 same_run : (ds es r s : List ℕ) → AllDigits 10 ds → AllDigits 10 es → ds ++ r ≡ es ++ s → (length ds < length es → NoDigit r) → NoDigit s → ds ≡ es
@@ -204,8 +199,7 @@ module _ (text : List ℕ) (at limit : ℕ) (c : Care) (n : ℕ) (piece rest : L
   reads_by r (none h) = absurd (omega arith)
   reads_by r (more d h) =
       let after : digit_at text (at + length piece) ≡ None = ap digit_of (slice_get_front text (at + length piece) ∙ ap (λ t. slice_get t 0) (drop_past text at piece rest e)) ∙ stop in
-      let z : ◌≡◌ {A = ℕ} 0 1 = cc in
-      absurd (omega arith)
+      absurd (grind arith)
   reads_by r (over l) = inr (over_shape c limit n l g.within, (Reading (Number at), refl, tt))
   reads_by r (within h k l) = inl refl
 

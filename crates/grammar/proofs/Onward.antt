@@ -6,7 +6,7 @@ use Rattle.books.specs.declared.fault.ReadFault.TheVariants.{Number}
 use Rattle.books.specs.declared.fault.Fault.{Fault}
 use Rattle.books.specs.declared.fault.Fault.TheVariants.{Reading}
 use Rattle.text.specs.Bytes.{and_then}
-use Rattle.text.specs.Forms.{Line, order_line, atom_line, rule_line, end_line, form_at}
+use Rattle.text.specs.Forms.{Line, order_line, atom_line, rule_line, end_line}
 use Rattle.text.specs.declared.counts.Counts.{Counts}
 use Rattle.text.specs.declared.reader.Stage.{Stage}
 use Rattle.text.specs.declared.reader.Stage.TheVariants.{Start, Atoms, Rules, End}
@@ -14,14 +14,15 @@ use Rattle.grammar.specs.Pieces.{Care, shape, kept, plain, Kept, Followed}
 use Rattle.grammar.specs.Agreement.{Agrees}
 use Rattle.grammar.proofs.Agreeing.{Any, Via, agrees_as, agrees_then, agrees_done}
 use Rattle.grammar.proofs.Choosing.{agrees_never}
-use Rattle.grammar.proofs.Lines.{FormAt}
-use Rattle.grammar.proofs.Rests.{Going, bare, Rest, rest_sample}
+use Rattle.grammar.proofs.Lines.{FormAt, Going, reads_form, FormsAgree}
+use Rattle.grammar.proofs.Rests.{bare, Rest, rest_sample}
 use Rattle.grammar.proofs.Following.{onto}
+use Rattle.grammar.specs.Notations.{Notation}
 
 -- what is read, changed
 agrees_map : {X Y : Type 0} (f : X → Y) (P : List ℕ → ℕ → Result (X × ℕ) Fault) (G : Care → X → List ℕ → Type 0) → Agrees P G Any → Agrees (λ text at. and_then (P text at) (λ p. Ok (f p.0, p.1))) (λ c y piece. (x : X) × (y ≡ f x) × G c x piece) Any
 agrees_map f P G a =
-    agrees_as _ (Via G (λ x c y piece. (y ≡ f x) × (piece ≡ []))) _ Any
+    agrees_as
     (λ c y piece v.
     let parts = v.parts in
     let same : parts.front ≡ piece = sym (parts.whole ∙ ap (λ t. parts.front ++ t) parts.second.1 ∙ append-nil parts.front) in
@@ -30,9 +31,11 @@ agrees_map f P G a =
     (agrees_then P (λ at x text next. Ok (f x, next)) G (λ x c y piece. (y ≡ f x) × (piece ≡ [])) Any Any a (λ at x. agrees_done (f x) Any) (λ c x y piece rest h s. tt))
 
 module _ {S : Type 0} where
+  -- a book with one more atom in front
   abbrev pub with_atom : Atom S → Meaning S → Meaning S
   with_atom x m = record { atoms = x ∷ m.atoms; rules = m.rules }
 
+  -- a book with one more rule number in front
   abbrev pub with_rule : Option Rule → Meaning S → Meaning S
   with_rule o m = record { atoms = m.atoms; rules = o ∷ m.rules }
 
@@ -49,23 +52,23 @@ module _ {S : Type 0} where
   Onward next a r (rule_line o) c m piece = (k : Meaning S) × (m ≡ with_rule o k) × next Rules a (r + 1) c k piece
   Onward next a r end_line c m piece = (m ≡ bare) × (piece ≡ [])
 
-module _ {S : Type 0} (stamp_at : List ℕ → ℕ → Result (S × ℕ) Fault) (word : List ℕ) (room : Counts) where
+module _ {S : Type 0} (kind : Notation S) (room : Counts) where
   -- the forms from a stage to the end form, n at most; the fault past them is no byte's
   abbrev pub lines : ℕ → Stage → ℕ → ℕ → List ℕ → ℕ → Result (Meaning S × ℕ) Fault
   lines zero stage a r text at = Err (Reading (Number 0))
   lines (suc n) stage a r text at =
-      and_then (form_at stamp_at word text room (record { stage = stage; next = at; atoms = a; rules = r })) (λ p. onward (lines n) a r p.0 text p.1)
+      and_then (reads_form kind room stage a r text at) (λ p. onward (lines n) a r p.0 text p.1)
 
-module _ {S : Type 0} (word : List ℕ) (spells : Care → S → List ℕ → Type 0) (room : Counts) where
+module _ {S : Type 0} (kind : Notation S) (room : Counts) where
   -- what those forms spell; more forms than n have the shape alone
   abbrev pub Lines : ℕ → Stage → ℕ → ℕ → Care → Meaning S → List ℕ → Type 0
-  Lines zero stage a r c m piece = Kept c ⊥ × Rest word spells room stage a r shape m piece
-  Lines (suc n) stage a r c m piece = Via (FormAt word spells room stage a r) (Onward (Lines n) a r) c m piece
+  Lines zero stage a r c m piece = Kept c ⊥ × Rest kind room stage a r shape m piece
+  Lines (suc n) stage a r c m piece = Via (FormAt kind room stage a r) (Onward (Lines n) a r) c m piece
 
   abbrev rest : Stage → ℕ → ℕ → Care → Meaning S → List ℕ → Type 0
-  rest = Rest word spells room
+  rest = Rest kind room
 
-  rule_rest : (o : Option Rule) (a r : ℕ) (c : Care) (xs : List (Atom S)) (os : List (Option Rule)) (piece : List ℕ) → Followed (FormAt word spells room Rules a r c (rule_line o)) (rest Rules a (r + 1) c (record { atoms = xs; rules = os })) piece → rest Rules a r c (record { atoms = xs; rules = o ∷ os }) piece
+  rule_rest : (o : Option Rule) (a r : ℕ) (c : Care) (xs : List (Atom S)) (os : List (Option Rule)) (piece : List ℕ) → Followed (FormAt kind room Rules a r c (rule_line o)) (rest Rules a (r + 1) c (record { atoms = xs; rules = os })) piece → rest Rules a r c (record { atoms = xs; rules = o ∷ os }) piece
   rule_rest o a r c [] os piece f = f
   rule_rest o a r c (x ∷ xs) os piece f = absurd f.second
 
@@ -80,7 +83,7 @@ module _ {S : Type 0} (word : List ℕ) (spells : Care → S → List ℕ → Ty
 
   module _ (next : Stage → ℕ → ℕ → Care → Meaning S → List ℕ → Type 0) (known : (stage : Stage) (a r : ℕ) (c : Care) (m : Meaning S) (piece : List ℕ) → next stage a r c m piece → rest stage a r c m piece) where
     -- a form, and what remains after it
-    one_rest : (stage : Stage) (line : Line S) (a r : ℕ) (c : Care) (m : Meaning S) (front back piece : List ℕ) → piece ≡ front ++ back → FormAt word spells room stage a r c line front → Onward next a r line c m back → rest stage a r c m piece
+    one_rest : (stage : Stage) (line : Line S) (a r : ℕ) (c : Care) (m : Meaning S) (front back piece : List ℕ) → piece ≡ front ++ back → FormAt kind room stage a r c line front → Onward next a r line c m back → rest stage a r c m piece
     one_rest Start order_line a r c m front back piece e f h = record { front = front; back = back; whole = e; first = f; second = known Atoms a r c m back h }
     one_rest Start (atom_line x) a r c m front back piece e f h = absurd f
     one_rest Start (rule_line o) a r c m front back piece e f h = absurd f
@@ -102,6 +105,7 @@ module _ {S : Type 0} (word : List ℕ) (spells : Care → S → List ℕ → Ty
     one_rest Rules end_line a r c m front back piece e f h = ended a r c Rules m front back piece e f h.0 h.1
     one_rest End line a r c m front back piece e f h = absurd f
 
+  -- n forms, or fewer, are what remains of a text
   pub lines_rest : (n : ℕ) (stage : Stage) (a r : ℕ) (c : Care) (m : Meaning S) (piece : List ℕ) → Lines n stage a r c m piece → rest stage a r c m piece
   lines_rest zero stage a r shape m piece h = h.1
   lines_rest zero stage a r kept m piece h = absurd h.0
@@ -109,7 +113,7 @@ module _ {S : Type 0} (word : List ℕ) (spells : Care → S → List ℕ → Ty
   lines_rest (suc n) stage a r c m piece h =
       one_rest (Lines n) (lines_rest n) stage h.value a r c m h.parts.front h.parts.back piece h.parts.whole h.parts.first h.parts.second
 
-  via : (n : ℕ) (stage : Stage) (a r : ℕ) (c : Care) (m : Meaning S) (line : Line S) (piece : List ℕ) → Followed (FormAt word spells room stage a r c line) (Onward (Lines n) a r line c m) piece → Lines (suc n) stage a r c m piece
+  via : (n : ℕ) (stage : Stage) (a r : ℕ) (c : Care) (m : Meaning S) (line : Line S) (piece : List ℕ) → Followed (FormAt kind room stage a r c line) (Onward (Lines n) a r line c m) piece → Lines (suc n) stage a r c m piece
   via n stage a r c m line piece f = record { value = line; parts = f }
 
   late_lines : (n : ℕ) (os : List (Option Rule)) (a r : ℕ) (c : Care) (piece : List ℕ) → length os < n → rest Rules a r c (record { atoms = []; rules = os }) piece → Lines n Rules a r c (record { atoms = []; rules = os }) piece
@@ -135,8 +139,7 @@ module _ {S : Type 0} (word : List ℕ) (spells : Care → S → List ℕ → Ty
       via n Start a r c m order_line piece
       (onto h (atoms_lines n m.atoms m.rules a r c h.back l h.second))
 
-module _ {S : Type 0} (stamp_at : List ℕ → ℕ → Result (S × ℕ) Fault) (word : List ℕ) (spells : Care → S → List ℕ → Type 0) (room : Counts)
-    (forms : (stage : Stage) → Going stage → (atoms rules : ℕ) → Agrees (λ text at. form_at stamp_at word text room (record { stage = stage; next = at; atoms = atoms; rules = rules })) (FormAt word spells room stage atoms rules) (λ _. Unit {0})) where
+module _ {S : Type 0} (kind : Notation S) (room : Counts) (forms : FormsAgree kind room) where
   onward_agrees : (next : Stage → ℕ → ℕ → List ℕ → ℕ → Result (Meaning S × ℕ) Fault) (G : Stage → ℕ → ℕ → Care → Meaning S → List ℕ → Type 0) → ((stage : Stage) → Going stage → (a r : ℕ) → Agrees (next stage a r) (G stage a r) Any) → (a r : ℕ) (line : Line S) → Agrees (onward next a r line) (Onward G a r line) Any
   onward_agrees next G h a r order_line = h Atoms tt a r
   onward_agrees next G h a r (atom_line x) = agrees_map (with_atom x) (next Atoms (a + 1) r) (G Atoms (a + 1) r) (h Atoms tt (a + 1) r)
@@ -144,13 +147,13 @@ module _ {S : Type 0} (stamp_at : List ℕ → ℕ → Result (S × ℕ) Fault) 
   onward_agrees next G h a r end_line = agrees_done bare Any
 
   -- reading on agrees with what remains
-  pub lines_agree : (n : ℕ) (stage : Stage) → Going stage → (a r : ℕ) → Agrees (lines stamp_at word room n stage a r) (Lines word spells room n stage a r) Any
+  pub lines_agree : (n : ℕ) (stage : Stage) → Going stage → (a r : ℕ) → Agrees (lines kind room n stage a r) (Lines kind room n stage a r) Any
   lines_agree zero stage g a r =
-      agrees_never (Reading (Number 0)) tt (Lines word spells room zero stage a r) Any (λ c m piece h. (tt, h.1))
-      (let s = rest_sample word spells room stage g a r in (s.0, s.1, (tt, s.2)))
+      agrees_never (Reading (Number 0)) tt (Lines kind room zero stage a r) Any (λ c m piece h. (tt, h.1))
+      (let s = rest_sample kind room stage g a r in (s.0, s.1, (tt, s.2)))
       (λ c m piece h. h.0)
   lines_agree (suc n) stage g a r =
-      agrees_then (λ text at. form_at stamp_at word text room (record { stage = stage; next = at; atoms = a; rules = r })) (λ at line. onward (lines stamp_at word room n) a r line)
-      (FormAt word spells room stage a r) (Onward (Lines word spells room n) a r) Any Any (forms stage g a r)
-      (λ at line. onward_agrees (lines stamp_at word room n) (Lines word spells room n) (lines_agree n) a r line)
+      agrees_then (reads_form kind room stage a r) (λ at line. onward (lines kind room n) a r line)
+      (FormAt kind room stage a r) (Onward (Lines kind room n) a r) Any Any (forms stage g a r)
+      (λ at line. onward_agrees (lines kind room n) (Lines kind room n) (lines_agree n) a r line)
       (λ c line m piece rest h s. tt)

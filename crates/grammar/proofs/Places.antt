@@ -12,13 +12,13 @@ slice_get_front (b ∷ text) zero = refl
 slice_get_front (b ∷ text) (suc at) = slice_get_front text at
 
 drop_suc : (text : List ℕ) (at b : ℕ) → slice_get text at ≡ Some b → drop at text ≡ b ∷ drop (suc at) text
-drop_suc [] at b e = let z : ◌≡◌ {A = ℕ} 0 1 = cc in absurd (omega arith)
-drop_suc (x ∷ text) zero b e = let same : x ≡ b = cc in ap (λ y. y ∷ text) same
+drop_suc [] at b e = absurd (grind arith)
+drop_suc (x ∷ text) zero b e = grind arith
 drop_suc (x ∷ text) (suc at) b e = drop_suc text at b e
 
 -- a byte at a place, and what follows it
 pub drop_step : (text : List ℕ) (at b : ℕ) → slice_get text at ≡ Some b → drop at text ≡ b ∷ drop (at + 1) text
-drop_step text at b e = drop_suc text at b e ∙ ap (λ n. b ∷ drop n text) (sym (add-one at))
+drop_step text at b e = rw add-one (drop_suc text at b e)
 
 -- past a piece stands what follows it
 pub drop_past : (text : List ℕ) (at : ℕ) (piece rest : List ℕ) → drop at text ≡ piece ++ rest → drop (at + length piece) text ≡ rest

@@ -30,7 +30,7 @@ agreed (b ∷ word) [] = 0
 agreed (b ∷ word) (c ∷ text) = cond (eqb c b) (suc (agreed word text)) 0
 
 agreed_step : (b : ℕ) (word text : List ℕ) (at : ℕ) → agreed (b ∷ word) (drop at text) ≡ cond (is_byte b (slice_get text at)) (suc (agreed word (drop (at + 1) text))) 0
-agreed_step b word text at = by_suc text at ∙ ap (λ n. cond (is_byte b (slice_get text at)) (suc (agreed word (drop n text))) 0) (sym (add-one at))
+agreed_step b word text at = rw add-one (by_suc text at)
   where
     by_suc : (text : List ℕ) (at : ℕ) → agreed (b ∷ word) (drop at text) ≡ cond (is_byte b (slice_get text at)) (suc (agreed word (drop (suc at) text))) 0
     by_suc [] zero = refl
@@ -92,7 +92,7 @@ meets (b ∷ word) rest (c ∷ text) more (suc k) l e =
 
 begins_front : (word text : List ℕ) → begins word text ≡ true → (rest : List ℕ) × (text ≡ word ++ rest)
 begins_front [] text h = (text, refl)
-begins_front (b ∷ word) [] h = let z : ◌≡◌ {A = ℕ} 0 1 = cc in absurd (omega arith)
+begins_front (b ∷ word) [] h = absurd (grind arith)
 begins_front (b ∷ word) (c ∷ text) h =
     let parts = and_parts (eqb c b) (begins word text) h in
     let (rest, e) = begins_front word text parts.1 in
@@ -252,13 +252,13 @@ order_place text = omega (arith, agrees_from_start tick_order text, agrees_from_
 
 -- the check and the writer refuse no byte
 no_byte : {X : Type 0} (fault gap : Option CheckFault) (needed room : ℕ) (x : X) (k : ℕ) → and_then (unless fault) (λ _. and_then (write_answer gap needed room) (λ _. Ok x)) ≡ Err (Reading (Byte k)) → ⊥
-no_byte (Some f) gap needed room x k e = let z : ◌≡◌ {A = ℕ} 0 1 = cc in omega arith
-no_byte None (Some f) needed room x k e = let z : ◌≡◌ {A = ℕ} 0 1 = cc in omega arith
+no_byte (Some f) gap needed room x k e = grind arith
+no_byte None (Some f) needed room x k e = grind arith
 no_byte {X} None None needed room x k e = by_room (ltb room needed) e
   where
     by_room : (t : Bool) → and_then (cond t (Err (Making (SheetTooShort needed))) (Ok needed)) (λ _. Ok x) ≡ Err (Reading (Byte k)) → ⊥
-    by_room true e = let z : ◌≡◌ {A = ℕ} 0 1 = cc in omega arith
-    by_room false e = let z : ◌≡◌ {A = ℕ} 0 1 = cc in omega arith
+    by_room true e = grind arith
+    by_room false e = grind arith
 
 -- so a byte that is refused on the way to the canonical text is refused by the reader
 read_refused : {S : Type 0} (n : Notation S) (tests : Tests S) (text : List ℕ) (atoms rules room k : ℕ) → canonical_at n.stamp_at n.word n.spelt tests text atoms rules room ≡ Err (Reading (Byte k)) → read_as n text atoms rules ≡ Err (Reading (Byte k))
@@ -266,7 +266,7 @@ read_refused {S} n tests text atoms rules room k e = by_book (read_as n text ato
   where
     by_book : (r : Result (Meaning S) Fault) → and_then r (λ m. checked_text n.word n.spelt tests m room) ≡ Err (Reading (Byte k)) → r ≡ Err (Reading (Byte k))
     by_book (Ok m) h = absurd (no_byte (book_fault tests m) (book_gap m) (length (written_of n m)) room (written_of n m) k h)
-    by_book (Err f) h = let same : f ≡ Reading (Byte k) = cc in ap Err same
+    by_book (Err f) h = grind arith
 
 -- a text that is not too long is refused by the reader of its word's kind
 by_order : (text : List ℕ) (T R H : Result (List ℕ) Fault) (k : ℕ) → (T ≡ Err (Reading (Byte k)) → RefusedThere ticks text k) → (R ≡ Err (Reading (Byte k)) → RefusedThere routes text k) → (H ≡ Err (Reading (Byte k)) → RefusedThere pairs text k) → by_word (word_of text) T R H (wrong_at (order_refused text)) ≡ Err (Reading (Byte k)) → RefusedByAll text k
@@ -276,8 +276,9 @@ by_order text T R H k tick route then e = by_tests (begins tick_order text) (beg
     by_tests true r h bt br bh e = refused_tick text k bt (tick e)
     by_tests false true h bt br bh e = refused_route text k br (route e)
     by_tests false false true bt br bh e = refused_then text k bh (then e)
-    by_tests false false false bt br bh e = let same : order_refused text ≡ k = cc in refused_order text k bt br bh (sym same ∙ order_place text)
+    by_tests false false false bt br bh e = refused_order text k bt br bh (grind (arith, order_place text))
 
+-- the place at which the program refuses a byte is the first at which no text goes on
 pub program_refuses_there_lem : ProgramRefusesThere
 unfolding program_at
 program_refuses_there_lem text tick_rows route_rows pair_rows rules room k e =
@@ -288,5 +289,5 @@ program_refuses_there_lem text tick_rows route_rows pair_rows rules room k e =
     (short (ltb 65536 (length text)) _ e)
   where
     short : (t : Bool) (r : Result (List ℕ) Fault) → cond t (Err (Reading (TooMany 0))) r ≡ Err (Reading (Byte k)) → r ≡ Err (Reading (Byte k))
-    short true r h = let z : ◌≡◌ {A = ℕ} 0 1 = cc in absurd (omega arith)
+    short true r h = absurd (grind arith)
     short false r h = h

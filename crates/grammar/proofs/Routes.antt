@@ -5,7 +5,7 @@ use lib.Bits.{bit_or, or_shifted_r}
 use Rattle.std.proofs.lemmas.Nat.{pow_pos, mod-pow-add, mod_below}
 use Rattle.std.proofs.ByRecursion.{All-push, All-weaker}
 use Rattle.std.proofs.lemmas.List.{append_assoc, append-nil}
-use Rattle.std.proofs.lemmas.Bool.{cases_eq, eq-eqb, ne_eqb, cond-true, cond-false}
+use Rattle.std.proofs.lemmas.Bool.{cases_eq, ne_eqb, cond-false}
 use Rattle.std.specs.List.{AllByRecursion}
 use Rattle.stamps.specs.declared.route.Route.{Route}
 use Rattle.text.specs.Spelt.{up_to, space, opening, shutting, list_text, aisle_text, route_text}
@@ -13,6 +13,7 @@ use Rattle.grammar.specs.Pieces.{kept, plain, Listed}
 use Rattle.grammar.specs.Stamps.{RisingFrom, with_aisles, RouteSpelt}
 use Rattle.grammar.proofs.Canonical.{after_first, spaced_text, list_text_lem, list_canonical, list_unique}
 use Rattle.grammar.proofs.Keeping.{list_within}
+use Rattle.std.proofs.lemmas.Bool.Decides.{nat_tests}
 
 -- a rising list of numbers below n, and the mask of its aisles
 data Marked : ℕ → List ℕ → ℕ → Type 0 where
@@ -121,10 +122,10 @@ module _ (mask n : ℕ) where
   was_on m e = elim bit_cases [ inl z ↦ absurd (omega (arith, off z, below)) | inr o ↦ (o, omega (arith, on o)) ]
 
   not_there : bit ≡ 0 → aisle_text mask n ≡ []
-  not_there z = cond-false _ _ _ (ne_eqb bit 1 (λ e. omega arith))
+  not_there z = grind (arith, nat_tests)
 
   there : bit ≡ 1 → aisle_text mask n ≡ cond (eqb (mask % 2 ^ n) 0) [] space ++ decimal n
-  there o = cond-true _ _ _ (eq-eqb bit 1 o)
+  there o = grind (arith, nat_tests)
 
 marked_text : {n : ℕ} {ks : List ℕ} {m : ℕ} → Marked n ks m → (mask : ℕ) → mask % 2 ^ n ≡ m → up_to (aisle_text mask) n ≡ spaced_text ks
 unfolding up_to
@@ -164,6 +165,7 @@ route_aisles mask l =
 pub aisles_fit : (ks : List ℕ) → RisingFrom 0 ks → AllByRecursion (λ k. k ≤ 63) ks → with_aisles 0 ks < 2 ^ 64
 aisles_fit ks r b = marked_below (rising_marked ks r b)
 
+-- the text that is written of the mask of rising aisles is that of their list
 pub route_text_lem : (ks : List ℕ) → RisingFrom 0 ks → AllByRecursion (λ k. k ≤ 63) ks → route_text (record { aisles = with_aisles 0 ks }) ≡ list_text ks
 route_text_lem ks r b =
     let h = rising_marked ks r b in
@@ -173,6 +175,7 @@ route_text_lem ks r b =
 route_text_of : (r : Route) (ks : List ℕ) → r.aisles ≡ with_aisles 0 ks → RisingFrom 0 ks → AllByRecursion (λ k. k ≤ 63) ks → route_text r ≡ list_text ks
 route_text_of r ks e rising b = ap (λ a. opening ++ up_to (aisle_text a) 64 ++ shutting) e ∙ route_text_lem ks rising b
 
+-- the text that is written of a route spells it, with no leading zeros
 pub route_canonical : (r : Route) → r.aisles < 2 ^ 64 → RouteSpelt plain r (route_text r)
 route_canonical r l =
     let (ks, rising, b, means) = route_aisles r.aisles l in
@@ -183,6 +186,7 @@ route_canonical r l =
       means = means;
     }
 
+-- and no other text does
 pub route_unique : (r : Route) (text : List ℕ) → RouteSpelt plain r text → text ≡ route_text r
 route_unique r text h =
     list_unique 63 h.aisles text h.listed

@@ -4,7 +4,7 @@ use Rattle.std.specs.List.{slice_get}
 use Rattle.books.specs.Meaning.{Rule, Atom}
 use Rattle.books.specs.declared.fault.Fault.{Fault}
 use Rattle.text.specs.Bytes.{and_then}
-use Rattle.text.specs.Forms.{Line, order_line, atom_line, rule_line, end_line, closing, order_at, form_at}
+use Rattle.text.specs.Forms.{Line, order_line, atom_line, rule_line, end_line, closing, order_at}
 use Rattle.text.specs.Kinds.{order_opening, atom_opening, rule_opening, void_opening}
 use Rattle.text.specs.Spelt.{space, end_text, kind_text}
 use Rattle.text.specs.Words.{pass_word, is_byte}
@@ -20,8 +20,8 @@ use Rattle.grammar.proofs.Dispatch.{atom_word, rule_word, void_word, rule_rest, 
 use Rattle.grammar.proofs.Following.{under, regroup, ungroup, ended, unended, word_to, word_from, first_of, onto}
 use Rattle.grammar.proofs.Formed.{Parts}
 use Rattle.grammar.proofs.Forms.{RuleRest, rule_rest_agrees, VoidRest, void_rest_agrees, EndRest, end_rest_agrees, AtomRest, atom_rest_agrees}
-use Rattle.grammar.proofs.Lines.{LateForm, FormAt}
-use Rattle.grammar.proofs.Rests.{Going}
+use Rattle.grammar.proofs.Lines.{LateForm, FormAt, Going, reads_form}
+use Rattle.grammar.specs.Notations.{Notation}
 
 -- the parts of a rule and the end of its form, bracketed as the grammar has them
 abbrev Closing : Care → ℕ → Rule → List ℕ → Type 0
@@ -30,27 +30,27 @@ Closing c atoms r =
 
 parts_open : (c : Care) (atoms : ℕ) (r : Rule) (text : List ℕ) → Followed (Parts c atoms r) (Exactly closing) text → Closing c atoms r text
 parts_open c atoms r text h =
-    under _ _ _ text (λ t g.
-    under _ _ _ t (λ u i.
-    under _ _ _ u (λ v j.
-    under _ _ _ v (λ w k. ungroup (Exactly space) (Body c atoms r.negatives) (Exactly closing) w k)
-    (ungroup (Body c atoms r.positives) (Followed (Exactly space) (Body c atoms r.negatives)) (Exactly closing) v j))
-    (ungroup (Exactly space) (Followed (Body c atoms r.positives) (Followed (Exactly space) (Body c atoms r.negatives))) (Exactly closing) u i))
-    (ungroup (Declared c atoms r.head) (Followed (Exactly space) (Followed (Body c atoms r.positives) (Followed (Exactly space) (Body c atoms r.negatives)))) (Exactly closing) t g))
-    (ungroup (Exactly space) (Followed (Declared c atoms r.head) (Followed (Exactly space) (Followed (Body c atoms r.positives) (Followed (Exactly space) (Body c atoms r.negatives))))) (Exactly closing) text h)
+    under (λ t g.
+    under (λ u i.
+    under (λ v j.
+    under (λ w k. ungroup k)
+    (ungroup j))
+    (ungroup i))
+    (ungroup g))
+    (ungroup h)
 
 parts_shut : (c : Care) (atoms : ℕ) (r : Rule) (text : List ℕ) → Closing c atoms r text → Followed (Parts c atoms r) (Exactly closing) text
 parts_shut c atoms r text h =
-    regroup (Exactly space) (Followed (Declared c atoms r.head) (Followed (Exactly space) (Followed (Body c atoms r.positives) (Followed (Exactly space) (Body c atoms r.negatives))))) (Exactly closing) text
-    (under _ _ _ text (λ t g.
-    regroup (Declared c atoms r.head) (Followed (Exactly space) (Followed (Body c atoms r.positives) (Followed (Exactly space) (Body c atoms r.negatives)))) (Exactly closing) t
-    (under _ _ _ t (λ u i.
-    regroup (Exactly space) (Followed (Body c atoms r.positives) (Followed (Exactly space) (Body c atoms r.negatives))) (Exactly closing) u
-    (under _ _ _ u (λ v j.
-    regroup (Body c atoms r.positives) (Followed (Exactly space) (Body c atoms r.negatives)) (Exactly closing) v
-    (under _ _ _ v (λ w k. regroup (Exactly space) (Body c atoms r.negatives) (Exactly closing) w k) j)) i)) g)) h)
+    regroup
+    (under (λ t g.
+    regroup
+    (under (λ u i.
+    regroup
+    (under (λ v j.
+    regroup
+    (under (λ w k. regroup k) j)) i)) g)) h)
 
-module _ {S : Type 0} (stamp_at : List ℕ → ℕ → Result (S × ℕ) Fault) (word : List ℕ) (spells : Care → S → List ℕ → Type 0) (room : Counts) (stamps : Agrees stamp_at spells NoDigit) (atoms rules : ℕ) where
+module _ {S : Type 0} (kind : Notation S) (room : Counts) (stamps : Agrees kind.stamp_at kind.spells NoDigit) (atoms rules : ℕ) where
   abbrev RuleAfter : Care → Line S → List ℕ → Type 0
   RuleAfter c y = Followed (Exactly rule_word) (RuleRest S room atoms rules c y)
 
@@ -64,145 +64,145 @@ module _ {S : Type 0} (stamp_at : List ℕ → ℕ → Result (S × ℕ) Fault) 
   Late c y piece = RuleAfter c y piece ⊎ (VoidAfter c y piece ⊎ EndAfter c y piece)
 
   abbrev AtomAfter : Care → Line S → List ℕ → Type 0
-  AtomAfter c y = Followed (Exactly atom_word) (AtomRest S room atoms rules stamp_at spells stamps c y)
+  AtomAfter c y = Followed (Exactly atom_word) (AtomRest S room atoms rules kind.stamp_at kind.spells stamps c y)
 
   late_reader : ℕ → List ℕ → ℕ → Result (Line S × ℕ) Fault
-  late_reader at text m = cond (is_byte 114 (slice_get text m)) (after_rule stamp_at word room atoms rules at text m) (cond (is_byte 118 (slice_get text m)) (after_void stamp_at word room atoms rules at text m) (after_end stamp_at word room atoms rules text m))
+  late_reader at text m = cond (is_byte 114 (slice_get text m)) (after_rule kind room atoms rules at text m) (cond (is_byte 118 (slice_get text m)) (after_void kind room atoms rules at text m) (after_end kind room atoms rules text m))
 
   late_agrees : (at : ℕ) → Agrees (late_reader at) Late Any
   unfolding late_reader
   late_agrees at =
-      agrees_choice 114 (after_rule stamp_at word room atoms rules at) _ RuleAfter (λ c y piece. VoidAfter c y piece ⊎ EndAfter c y piece) Any
+      agrees_choice 114 (after_rule kind room atoms rules at) _ RuleAfter (λ c y piece. VoidAfter c y piece ⊎ EndAfter c y piece) Any
       (word_then rule_word (rule_rest S room atoms rules at) (RuleRest S room atoms rules) Any (rule_rest_agrees S room atoms rules at))
-      (agrees_choice 118 (after_void stamp_at word room atoms rules at) (after_end stamp_at word room atoms rules) VoidAfter EndAfter Any
+      (agrees_choice 118 (after_void kind room atoms rules at) (after_end kind room atoms rules) VoidAfter EndAfter Any
       (word_then void_word (void_rest S room atoms rules at) (VoidRest S room atoms rules) Any (void_rest_agrees S room atoms rules at))
       (end_rest_agrees S room atoms rules)
-      (λ c y piece more f. ap (is_byte 118) (first_of _ _ _ piece more f))
+      (λ c y piece more f. ap (is_byte 118) (first_of more f))
       (λ c y piece more e. ap (λ t. is_byte 118 (slice_get (t ++ more) 0)) e.1))
-      (λ c y piece more f. ap (is_byte 114) (first_of _ _ _ piece more f))
+      (λ c y piece more f. ap (is_byte 114) (first_of more f))
       no_rule
     where
       no_rule : (c : Care) (y : Line S) (piece more : List ℕ) → VoidAfter c y piece ⊎ EndAfter c y piece → is_byte 114 (slice_get (piece ++ more) 0) ≡ is_byte 114 (Some 118)
-      no_rule c y piece more (inl f) = ap (is_byte 114) (first_of _ _ _ piece more f)
+      no_rule c y piece more (inl f) = ap (is_byte 114) (first_of more f)
       no_rule c y piece more (inr e) = ap (λ t. is_byte 114 (slice_get (t ++ more) 0)) e.1
 
   -- a bracket and then a form's word are its opening
   opened : (rest : List ℕ) (A B : List ℕ → Type 0) (text : List ℕ) (f : Followed (Exactly (40 ∷ [])) A text) → Followed (Exactly rest) B f.back → Followed (Exactly (40 ∷ rest)) B text
-  opened rest A B text f g = word_to 40 rest B text (onto f g)
+  opened rest A B text f g = word_to 40 rest (onto f g)
 
-  late_to : (c : Care) (y : Line S) (text : List ℕ) (A : List ℕ → Type 0) (f : Followed (Exactly (40 ∷ [])) A text) → Late c y f.back → LateForm word spells room atoms rules c y text
+  late_to : (c : Care) (y : Line S) (text : List ℕ) (A : List ℕ → Type 0) (f : Followed (Exactly (40 ∷ [])) A text) → Late c y f.back → LateForm kind room atoms rules c y text
   late_to c y text A f (inl g) =
       let (r, e, k, h) = g.second in
-      let body = under (Numbered c rules) (Followed (Parts c atoms r) (Exactly closing)) (Closing c atoms r) g.back (parts_open c atoms r) h in
+      let body = under (parts_open c atoms r) h in
       let whole : Followed (Exactly rule_opening) (Followed (Numbered c rules) (Closing c atoms r)) text = opened rule_word A (Followed (Numbered c rules) (Closing c atoms r)) text f (onto g body) in
-      subst (λ x. LateForm word spells room atoms rules c x text) (sym e) (k, whole)
+      subst (λ x. LateForm kind room atoms rules c x text) (sym e) (k, whole)
   late_to c y text A f (inr (inl g)) =
       let (e, k, h) = g.second in
       let whole : Followed (Exactly void_opening) (Followed (Numbered c rules) (Exactly closing)) text = opened void_word A (Followed (Numbered c rules) (Exactly closing)) text f (onto g h) in
-      subst (λ x. LateForm word spells room atoms rules c x text) (sym e) (k, whole)
+      subst (λ x. LateForm kind room atoms rules c x text) (sym e) (k, whole)
   late_to c y text A f (inr (inr g)) =
       let whole : text ≡ end_text = f.whole ∙ ap (λ t. t ++ f.back) f.first ∙ ap (λ t. 40 ∷ t) g.1 in
-      subst (λ x. LateForm word spells room atoms rules c x text) (sym g.0) whole
+      subst (λ x. LateForm kind room atoms rules c x text) (sym g.0) whole
 
-  late_from : (c : Care) (y : Line S) (text : List ℕ) → LateForm word spells room atoms rules c y text → Followed (Exactly (40 ∷ [])) (Late c y) text
+  late_from : (c : Care) (y : Line S) (text : List ℕ) → LateForm kind room atoms rules c y text → Followed (Exactly (40 ∷ [])) (Late c y) text
   late_from c order_line text h = absurd h
   late_from c (atom_line a) text h = absurd h
   late_from c (rule_line None) text h =
-      let f = word_from 40 void_word (Followed (Numbered c rules) (Exactly closing)) text h.1 in
+      let f = word_from 40 void_word h.1 in
       let g = f.second in
       onto f (inr (inl (onto g (refl, h.0, g.second))))
   late_from c (rule_line (Some r)) text h =
-      let f = word_from 40 rule_word (Followed (Numbered c rules) (Closing c atoms r)) text h.1 in
+      let f = word_from 40 rule_word h.1 in
       let g = f.second in
-      let body = under (Numbered c rules) (Closing c atoms r) (Followed (Parts c atoms r) (Exactly closing)) g.back (parts_shut c atoms r) g.second in
+      let body = under (parts_shut c atoms r) g.second in
       onto f (inl (onto g (r, refl, h.0, body)))
   late_from c end_line text h =
       record { front = 40 ∷ []; back = codes "end)\n"; whole = h; first = refl; second = inr (inr (refl, refl)) }
 
-  rules_agree : Agrees (λ text at. form_at stamp_at word text room (record { stage = Rules; next = at; atoms = atoms; rules = rules })) (FormAt word spells room Rules atoms rules) Any
+  rules_agree : Agrees (reads_form kind room Rules atoms rules) (FormAt kind room Rules atoms rules) Any
   unfolding late_reader
   rules_agree =
-      agrees_same _ _ _ Any (rules_same stamp_at word room atoms rules)
-      (agrees_as _ (λ c y. Followed (Exactly (40 ∷ [])) (Late c y)) _ Any (λ c y text f. late_to c y text (Late c y) f f.second) late_from
+      agrees_same (rules_same kind room atoms rules)
+      (agrees_as (λ c y text f. late_to c y text (Late c y) f f.second) late_from
       (byte_then_at 40 late_reader Late Any late_agrees))
 
   -- among atoms
   abbrev Early : Care → Line S → List ℕ → Type 0
   Early c y piece = AtomAfter c y piece ⊎ Late c y piece
 
-  early_agrees : (at : ℕ) → Agrees (λ text m. cond (is_byte 97 (slice_get text m)) (after_atom stamp_at word room atoms rules at text m) (late_reader at text m)) Early Any
+  early_agrees : (at : ℕ) → Agrees (λ text m. cond (is_byte 97 (slice_get text m)) (after_atom kind room atoms rules at text m) (late_reader at text m)) Early Any
   early_agrees at =
-      agrees_choice 97 (after_atom stamp_at word room atoms rules at) (late_reader at) AtomAfter Late Any
-      (word_then atom_word (atom_rest S room atoms rules stamp_at at) (AtomRest S room atoms rules stamp_at spells stamps) Any (atom_rest_agrees S room atoms rules stamp_at spells stamps at))
+      agrees_choice 97 (after_atom kind room atoms rules at) (late_reader at) AtomAfter Late Any
+      (word_then atom_word (atom_rest S room atoms rules kind.stamp_at at) (AtomRest S room atoms rules kind.stamp_at kind.spells stamps) Any (atom_rest_agrees S room atoms rules kind.stamp_at kind.spells stamps at))
       (late_agrees at)
-      (λ c y piece more f. ap (is_byte 97) (first_of _ _ _ piece more f))
+      (λ c y piece more f. ap (is_byte 97) (first_of more f))
       no_atom_lem
     where
       no_atom_lem : (c : Care) (y : Line S) (piece more : List ℕ) → Late c y piece → is_byte 97 (slice_get (piece ++ more) 0) ≡ is_byte 97 (Some 114)
-      no_atom_lem c y piece more (inl f) = ap (is_byte 97) (first_of _ _ _ piece more f)
-      no_atom_lem c y piece more (inr (inl f)) = ap (is_byte 97) (first_of _ _ _ piece more f)
+      no_atom_lem c y piece more (inl f) = ap (is_byte 97) (first_of more f)
+      no_atom_lem c y piece more (inr (inl f)) = ap (is_byte 97) (first_of more f)
       no_atom_lem c y piece more (inr (inr e)) = ap (λ t. is_byte 97 (slice_get (t ++ more) 0)) e.1
 
   -- what is allowed among rules is allowed among atoms
-  late_early : (c : Care) (y : Line S) (text : List ℕ) → LateForm word spells room atoms rules c y text → FormAt word spells room Atoms atoms rules c y text
+  late_early : (c : Care) (y : Line S) (text : List ℕ) → LateForm kind room atoms rules c y text → FormAt kind room Atoms atoms rules c y text
   late_early c order_line text h = absurd h
   late_early c (atom_line a) text h = absurd h
   late_early c (rule_line r) text h = h
   late_early c end_line text h = h
 
   abbrev AtomTail : Care → Atom S → List ℕ → Type 0
-  AtomTail c a = Followed (Numbered c atoms) (Followed (Exactly (kind_text a.reading)) (Followed (spells c a.stamp) (Exactly closing)))
+  AtomTail c a = Followed (Numbered c atoms) (Followed (Exactly (kind_text a.reading)) (Followed (kind.spells c a.stamp) (Exactly closing)))
 
-  early_to : (c : Care) (y : Line S) (text : List ℕ) (A : List ℕ → Type 0) (f : Followed (Exactly (40 ∷ [])) A text) → Early c y f.back → FormAt word spells room Atoms atoms rules c y text
+  early_to : (c : Care) (y : Line S) (text : List ℕ) (A : List ℕ → Type 0) (f : Followed (Exactly (40 ∷ [])) A text) → Early c y f.back → FormAt kind room Atoms atoms rules c y text
   early_to c y text A f (inl g) =
       let (a, e, k, h) = g.second in
       let whole : Followed (Exactly atom_opening) (AtomTail c a) text = opened atom_word A (AtomTail c a) text f (onto g h) in
-      subst (λ x. FormAt word spells room Atoms atoms rules c x text) (sym e) (k, whole)
+      subst (λ x. FormAt kind room Atoms atoms rules c x text) (sym e) (k, whole)
   early_to c y text A f (inr g) = late_early c y text (late_to c y text A f g)
 
-  early_from : (c : Care) (y : Line S) (text : List ℕ) → FormAt word spells room Atoms atoms rules c y text → Followed (Exactly (40 ∷ [])) (Early c y) text
+  early_from : (c : Care) (y : Line S) (text : List ℕ) → FormAt kind room Atoms atoms rules c y text → Followed (Exactly (40 ∷ [])) (Early c y) text
   early_from c order_line text h = absurd h
   early_from c (atom_line a) text h =
-      let f = word_from 40 atom_word (AtomTail c a) text h.1 in
+      let f = word_from 40 atom_word h.1 in
       let g = f.second in
       onto f (inl (onto g (a, refl, h.0, g.second)))
-  early_from c (rule_line r) text h = under (Exactly (40 ∷ [])) (Late c (rule_line r)) (Early c (rule_line r)) text (λ t l. inr l) (late_from c (rule_line r) text h)
-  early_from c end_line text h = under (Exactly (40 ∷ [])) (Late c end_line) (Early c end_line) text (λ t l. inr l) (late_from c end_line text h)
+  early_from c (rule_line r) text h = under (λ t l. inr l) (late_from c (rule_line r) text h)
+  early_from c end_line text h = under (λ t l. inr l) (late_from c end_line text h)
 
-  atoms_agree : Agrees (λ text at. form_at stamp_at word text room (record { stage = Atoms; next = at; atoms = atoms; rules = rules })) (FormAt word spells room Atoms atoms rules) Any
+  atoms_agree : Agrees (reads_form kind room Atoms atoms rules) (FormAt kind room Atoms atoms rules) Any
   unfolding late_reader
   atoms_agree =
-      agrees_same _ _ _ Any (atoms_same stamp_at word room atoms rules)
-      (agrees_as _ (λ c y. Followed (Exactly (40 ∷ [])) (Early c y)) _ Any (λ c y text f. early_to c y text (Early c y) f f.second) early_from
-      (byte_then_at 40 (λ at text m. cond (is_byte 97 (slice_get text m)) (after_atom stamp_at word room atoms rules at text m) (late_reader at text m)) Early Any early_agrees))
+      agrees_same (atoms_same kind room atoms rules)
+      (agrees_as (λ c y text f. early_to c y text (Early c y) f f.second) early_from
+      (byte_then_at 40 (λ at text m. cond (is_byte 97 (slice_get text m)) (after_atom kind room atoms rules at text m) (late_reader at text m)) Early Any early_agrees))
 
   -- before the order
   abbrev Ordered : Care → Line S → List ℕ → Type 0
-  Ordered c y = Followed (Exactly order_opening) (Followed (Exactly word) (Followed (Exactly closing) (λ p. (y ≡ order_line) × (p ≡ []))))
+  Ordered c y = Followed (Exactly order_opening) (Followed (Exactly kind.word) (Followed (Exactly closing) (λ p. (y ≡ order_line) × (p ≡ []))))
 
-  order_to : (c : Care) (y : Line S) (text : List ℕ) → Ordered c y text → FormAt word spells room Start atoms rules c y text
+  order_to : (c : Care) (y : Line S) (text : List ℕ) → Ordered c y text → FormAt kind room Start atoms rules c y text
   order_to c y text f =
       let g = f.second in
-      let whole : OrderForm word text = under (Exactly order_opening) _ _ text (λ t h. under (Exactly word) _ _ t (λ u i. ended (Exactly closing) (y ≡ order_line) u i) h) f in
-      subst (λ x. FormAt word spells room Start atoms rules c x text) (sym g.second.second.0) whole
+      let whole : OrderForm kind.word text = under (λ t h. under (λ u i. ended i) h) f in
+      subst (λ x. FormAt kind room Start atoms rules c x text) (sym g.second.second.0) whole
 
-  order_from : (c : Care) (y : Line S) (text : List ℕ) → FormAt word spells room Start atoms rules c y text → Ordered c y text
-  order_from c order_line text h = under (Exactly order_opening) _ _ text (λ t g. under (Exactly word) _ _ t (λ u i. unended (Exactly closing) (order_line ≡ order_line) u refl i) g) h
+  order_from : (c : Care) (y : Line S) (text : List ℕ) → FormAt kind room Start atoms rules c y text → Ordered c y text
+  order_from c order_line text h = under (λ t g. under (λ u i. unended refl i) g) h
   order_from c (atom_line a) text h = absurd h
   order_from c (rule_line r) text h = absurd h
   order_from c end_line text h = absurd h
 
-  start_agrees : Agrees (λ text at. form_at stamp_at word text room (record { stage = Start; next = at; atoms = atoms; rules = rules })) (FormAt word spells room Start atoms rules) Any
+  start_agrees : Agrees (reads_form kind room Start atoms rules) (FormAt kind room Start atoms rules) Any
   unfolding order_at
   start_agrees =
-      agrees_same _ _ _ Any (start_same stamp_at word room atoms rules)
-      (agrees_as _ Ordered _ Any order_to order_from
-      (word_then order_opening (λ text a. and_then (pass_word word text a) (λ b. and_then (pass_word closing text b) (λ next. Ok (order_line, next)))) _ Any
-      (word_then word (λ text b. and_then (pass_word closing text b) (λ next. Ok (order_line, next))) _ Any
+      agrees_same (start_same kind room atoms rules)
+      (agrees_as order_to order_from
+      (word_then order_opening (λ text a. and_then (pass_word kind.word text a) (λ b. and_then (pass_word closing text b) (λ next. Ok (order_line, next)))) _ Any
+      (word_then kind.word (λ text b. and_then (pass_word closing text b) (λ next. Ok (order_line, next))) _ Any
       (word_then closing (λ text m. Ok (order_line, m)) (λ c y p. (y ≡ order_line) × (p ≡ [])) Any (agrees_done order_line Any)))))
 
   -- at every stage but the end
-  pub forms_agree : (stage : Stage) → Going stage → Agrees (λ text at. form_at stamp_at word text room (record { stage = stage; next = at; atoms = atoms; rules = rules })) (FormAt word spells room stage atoms rules) Any
+  pub forms_agree : (stage : Stage) → Going stage → Agrees (reads_form kind room stage atoms rules) (FormAt kind room stage atoms rules) Any
   forms_agree Start g = start_agrees
   forms_agree Atoms g = atoms_agree
   forms_agree Rules g = rules_agree

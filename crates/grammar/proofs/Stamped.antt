@@ -18,17 +18,18 @@ Ticked c v piece = Numeral c largest v piece
 abbrev IsTick : ℕ → Care → Tick → List ℕ → Type 0
 IsTick v c t piece = (t ≡ record { 0 = v }) × (piece ≡ [])
 
+-- reading a tick is reading a number
 pub tick_agrees : Agrees tick_at TickSpelt NoDigit
 tick_agrees =
-    agrees_as tick_at (Via Ticked IsTick) TickSpelt NoDigit to from
+    agrees_as to from
     (agrees_then (λ text at. number_at text at largest) (λ at v text m. Ok (record { 0 = v }, m)) Ticked IsTick NoDigit NoDigit (number_agrees largest) (λ at v. agrees_done (record { 0 = v }) NoDigit)
     (λ c v t piece rest h s. subst (λ p. NoDigit (p ++ rest)) (sym h.1) s))
   where
     to : (c : Care) (t : Tick) (text : List ℕ) → Via Ticked IsTick c t text → TickSpelt c t text
-    to c t text v = subst (λ x. TickSpelt c x text) (sym v.parts.second.0) (ended (Ticked c v.value) (t ≡ record { 0 = v.value }) text v.parts)
+    to c t text v = subst (λ x. TickSpelt c x text) (sym v.parts.second.0) (ended v.parts)
 
     from : (c : Care) (t : Tick) (text : List ℕ) → TickSpelt c t text → Via Ticked IsTick c t text
-    from c t text n = record { value = t.0; parts = unended (Ticked c t.0) (t ≡ record { 0 = t.0 }) text refl n }
+    from c t text n = record { value = t.0; parts = unended refl n }
 
 -- a pair, from its second tick on
 abbrev Second : Tick → Care → Then Tick Tick → List ℕ → Type 0
@@ -38,25 +39,26 @@ second_agrees : (a : Tick) → Agrees (λ text m. and_then (tick_at text m) (λ 
 second_agrees a =
     agrees_then tick_at (λ at b text m. and_then (pass_at 41 text m) (λ next. Ok (record { first = a; second = b }, next))) TickSpelt (λ b c p. Followed (Exactly (41 ∷ [])) (λ q. (p ≡ record { first = a; second = b }) × (q ≡ []))) NoDigit Any tick_agrees
     (λ at b. byte_then 41 (λ text m. Ok (record { first = a; second = b }, m)) (λ c p q. (p ≡ record { first = a; second = b }) × (q ≡ [])) Any (agrees_done (record { first = a; second = b }) Any))
-    (λ c b p piece rest f s. ap digit_of (first_of _ _ _ piece rest f))
+    (λ c b p piece rest f s. ap digit_of (first_of rest f))
 
 abbrev First : Care → Then Tick Tick → List ℕ → Type 0
 First = Via TickSpelt (λ a c p. Followed (Exactly (32 ∷ [])) (Second a c p))
 
+-- reading a pair is reading two ticks in brackets
 pub pair_agrees : Agrees pair_at PairSpelt Any
 pair_agrees =
-    agrees_as pair_at (λ c p. Followed (Exactly (40 ∷ [])) (First c p)) PairSpelt Any to from
+    agrees_as to from
     (byte_then 40 _ First Any
     (agrees_then tick_at (λ at a text m. and_then (pass_at 32 text m) (λ second. and_then (tick_at text second) (λ b. and_then (pass_at 41 text b.1) (λ next. Ok (record { first = a; second = b.0 }, next))))) TickSpelt (λ a c p. Followed (Exactly (32 ∷ [])) (Second a c p)) NoDigit Any tick_agrees
     (λ at a. byte_then 32 (λ text m. and_then (tick_at text m) (λ b. and_then (pass_at 41 text b.1) (λ next. Ok (record { first = a; second = b.0 }, next)))) (Second a) Any (second_agrees a))
-    (λ c a p piece rest f s. ap digit_of (first_of _ _ _ piece rest f))))
+    (λ c a p piece rest f s. ap digit_of (first_of rest f))))
   where
     to : (c : Care) (p : Then Tick Tick) (text : List ℕ) → Followed (Exactly (40 ∷ [])) (First c p) text → PairSpelt c p text
     to c p text f =
         let a = f.second in
         let g = a.parts.second in
         let b = g.second in
-        let close = ended (Exactly (41 ∷ [])) (p ≡ record { first = a.value; second = b.value }) b.parts.back b.parts.second in
+        let close = ended b.parts.second in
         subst (λ x. PairSpelt c x text) (sym b.parts.second.second.0)
         (onto f (onto a.parts (onto g (onto b.parts close))))
 
@@ -65,5 +67,5 @@ pair_agrees =
         let g = f.second in
         let h = g.second in
         let i = h.second in
-        let second : Second p.first c p h.back = record { value = p.second; parts = onto i (unended (Exactly (41 ∷ [])) (p ≡ p) i.back refl i.second) } in
+        let second : Second p.first c p h.back = record { value = p.second; parts = onto i (unended refl i.second) } in
         onto f (record { value = p.first; parts = onto g (onto h second) })

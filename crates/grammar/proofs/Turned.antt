@@ -17,16 +17,13 @@ use Rattle.text.specs.declared.counts.Counts.{Counts}
 use Rattle.text.specs.declared.reader.Stage.{Stage}
 use Rattle.text.specs.declared.reader.Stage.TheVariants.{Start, Atoms, Rules, End}
 use Rattle.grammar.specs.Pieces.{Care, kept, Exactly, Followed}
-use Rattle.grammar.specs.Agreement.{Between, Seen, Agrees}
-use Rattle.grammar.proofs.Agreeing.{then_then}
-use Rattle.grammar.proofs.Lines.{FormAt}
+use Rattle.grammar.specs.Agreement.{Between, Seen}
+use Rattle.grammar.proofs.Agreeing.{then_then, then_same}
+use Rattle.grammar.proofs.Lines.{FormAt, Going, FormsAgree, reads_form}
 use Rattle.grammar.proofs.Onward.{with_atom, with_rule, onward, lines}
-use Rattle.grammar.proofs.Rests.{Going, bare}
+use Rattle.grammar.proofs.Rests.{bare}
 use Rattle.grammar.proofs.Turning.{tries_first, tries_stay}
-
-then_same : {X Y : Type 0} (r : Result X Fault) (f g : X → Result Y Fault) → ((x : X) → f x ≡ g x) → and_then r f ≡ and_then r g
-then_same (Ok x) f g h = h x
-then_same (Err e) f g h = refl
+use Rattle.grammar.specs.Notations.{Notation}
 
 tries_none : {X : Type 0} (f : X → Result X Fault) (s : X) → tries f s zero ≡ Ok s
 unfolding turns
@@ -49,12 +46,12 @@ refused_there text End at l = refl
 word_byte : (b : ℕ) (word : List ℕ) (B : List ℕ → Type 0) (piece : List ℕ) → Followed (Exactly (b ∷ word)) B piece → 1 ≤ length piece
 word_byte b word B piece f = omega (arith, ap length f.whole, length-append f.front f.back, ap length f.first)
 
-module _ {S : Type 0} (word : List ℕ) (spells : Care → S → List ℕ → Type 0) (room : Counts) where
-  rule_byte : (a r : ℕ) (c : Care) (o : Option Rule) (piece : List ℕ) → FormAt word spells room Rules a r c (rule_line o) piece → 1 ≤ length piece
+module _ {S : Type 0} (kind : Notation S) (room : Counts) where
+  rule_byte : (a r : ℕ) (c : Care) (o : Option Rule) (piece : List ℕ) → FormAt kind room Rules a r c (rule_line o) piece → 1 ≤ length piece
   rule_byte a r c None piece f = word_byte _ _ _ piece f.1
   rule_byte a r c (Some x) piece f = word_byte _ _ _ piece f.1
 
-  form_byte : (stage : Stage) (line : Line S) (a r : ℕ) (c : Care) (piece : List ℕ) → FormAt word spells room stage a r c line piece → 1 ≤ length piece
+  form_byte : (stage : Stage) (line : Line S) (a r : ℕ) (c : Care) (piece : List ℕ) → FormAt kind room stage a r c line piece → 1 ≤ length piece
   form_byte Start order_line a r c piece f = word_byte _ _ _ piece f
   form_byte Start (atom_line x) a r c piece f = absurd f
   form_byte Start (rule_line o) a r c piece f = absurd f
@@ -74,6 +71,7 @@ abbrev Inside : {X : Type 0} → List ℕ → ℕ → Result (X × ℕ) Fault �
 Inside text at (Ok p) = (at < p.1) × (p.1 ≤ length text)
 Inside text at (Err e) = Unit {0}
 
+-- what stands between two places of a text ends within it
 pub between_within : (text : List ℕ) (at next : ℕ) (piece : List ℕ) → Between text at next piece → at ≤ length text → next ≤ length text
 between_within text at next piece b l =
     omega (arith, ap length b.stands, length-append piece (drop next text), length-drop at text, length-drop next text, b.place)
@@ -88,17 +86,17 @@ closed xs os m at None = Ok (record { atoms = xs ++ m.atoms; rules = os ++ m.rul
 closed xs os m at (Some b) = wrong_at at
 
 closed_atom : {S : Type 0} (xs : List (Atom S)) (os : List (Option Rule)) (x : Atom S) (m : Meaning S) (at : ℕ) (o : Option ℕ) → closed (xs ++ (x ∷ [])) os m at o ≡ closed xs os (with_atom x m) at o
-closed_atom xs os x m at None = ap (λ t. Ok (record { atoms = t; rules = os ++ m.rules })) (append_assoc xs (x ∷ []) m.atoms)
+closed_atom xs os x m at None = rw append_assoc refl
 closed_atom xs os x m at (Some b) = refl
 
 closed_rule : {S : Type 0} (xs : List (Atom S)) (os : List (Option Rule)) (o : Option Rule) (m : Meaning S) (at : ℕ) (b : Option ℕ) → closed xs (os ++ (o ∷ [])) m at b ≡ closed xs os (with_rule o m) at b
-closed_rule xs os o m at None = ap (λ t. Ok (record { atoms = xs ++ m.atoms; rules = t })) (append_assoc os (o ∷ []) m.rules)
+closed_rule xs os o m at None = rw append_assoc refl
 closed_rule xs os o m at (Some b) = refl
 
 closed_bare : {S : Type 0} (xs : List (Atom S)) (os : List (Option Rule)) (at : ℕ) → closed xs os bare at None ≡ Ok (record { atoms = xs; rules = os })
-closed_bare xs os at = ap (λ t. Ok (record { atoms = t; rules = os ++ [] })) (append-nil xs) ∙ ap (λ t. Ok (record { atoms = xs; rules = t })) (append-nil os)
+closed_bare xs os at = rw (append-nil xs, append-nil os) refl
 
-module _ {S : Type 0} (stamp_at : List ℕ → ℕ → Result (S × ℕ) Fault) (word : List ℕ) (room : Counts) (text : List ℕ) where
+module _ {S : Type 0} (kind : Notation S) (room : Counts) (text : List ℕ) where
   abbrev place : Stage → ℕ → ℕ → ℕ → Reader
   place stage at a r = record { stage = stage; next = at; atoms = a; rules = r }
 
@@ -106,21 +104,21 @@ module _ {S : Type 0} (stamp_at : List ℕ → ℕ → Result (S × ℕ) Fault) 
   progress stage at a r xs os = record { reader = place stage at a r; atoms = xs; rules = os }
 
   abbrev form : Progress S → Result (Progress S) Fault
-  form = one_form stamp_at word text room
+  form = one_form kind.stamp_at kind.word text room
 
   abbrev finish : Progress S → Result (Meaning S) Fault
   finish s = cond (is_end s.reader.stage) (Ok (record { atoms = s.atoms; rules = s.rules })) (wrong_at (length text))
 
   -- at the end of the text no form stands
-  form_ends : (stage : Stage) → Going stage → (at a r : ℕ) → length text ≤ at → form_at stamp_at word text room (place stage at a r) ≡ wrong_at at
+  form_ends : (stage : Stage) → Going stage → (at a r : ℕ) → length text ≤ at → reads_form kind room stage a r text at ≡ wrong_at at
   unfolding form_at
-  form_ends Start g at a r l = ap (λ t. form_in stamp_at word text room (place Start at a r) (wrong_at (refused_at text Start at)) Start (kind_of t)) (drop_all at text l) ∙ ap wrong_at (refused_there text Start at l)
-  form_ends Atoms g at a r l = ap (λ t. form_in stamp_at word text room (place Atoms at a r) (wrong_at (refused_at text Atoms at)) Atoms (kind_of t)) (drop_all at text l) ∙ ap wrong_at (refused_there text Atoms at l)
-  form_ends Rules g at a r l = ap (λ t. form_in stamp_at word text room (place Rules at a r) (wrong_at (refused_at text Rules at)) Rules (kind_of t)) (drop_all at text l) ∙ ap wrong_at (refused_there text Rules at l)
+  form_ends Start g at a r l = ap (λ t. form_in kind.stamp_at kind.word text room (place Start at a r) (wrong_at (refused_at text Start at)) Start (kind_of t)) (drop_all at text l) ∙ ap wrong_at (refused_there text Start at l)
+  form_ends Atoms g at a r l = ap (λ t. form_in kind.stamp_at kind.word text room (place Atoms at a r) (wrong_at (refused_at text Atoms at)) Atoms (kind_of t)) (drop_all at text l) ∙ ap wrong_at (refused_there text Atoms at l)
+  form_ends Rules g at a r l = ap (λ t. form_in kind.stamp_at kind.word text room (place Rules at a r) (wrong_at (refused_at text Rules at)) Rules (kind_of t)) (drop_all at text l) ∙ ap wrong_at (refused_there text Rules at l)
   form_ends End g at a r l = absurd g
 
   -- past the end form none is allowed
-  form_past : (at a r : ℕ) → form_at stamp_at word text room (place End at a r) ≡ wrong_at at
+  form_past : (at a r : ℕ) → reads_form kind room End a r text at ≡ wrong_at at
   unfolding form_at refused_at
   form_past at a r = refl
 
@@ -130,7 +128,7 @@ module _ {S : Type 0} (stamp_at : List ℕ → ℕ → Result (S × ℕ) Fault) 
   unfinished Rules g at a r xs os = refl
   unfinished End g at a r xs os = absurd g
 
-  one_form_is : (stage : Stage) → Going stage → (at a r : ℕ) (xs : List (Atom S)) (os : List (Option Rule)) → form (progress stage at a r xs os) ≡ and_then (form_at stamp_at word text room (place stage at a r)) (λ p. Ok (after (progress stage at a r xs os) p))
+  one_form_is : (stage : Stage) → Going stage → (at a r : ℕ) (xs : List (Atom S)) (os : List (Option Rule)) → form (progress stage at a r xs os) ≡ and_then (reads_form kind room stage a r text at) (λ p. Ok (after (progress stage at a r xs os) p))
   one_form_is Start g at a r xs os = refl
   one_form_is Atoms g at a r xs os = refl
   one_form_is Rules g at a r xs os = refl
@@ -144,48 +142,48 @@ module _ {S : Type 0} (stamp_at : List ℕ → ℕ → Result (S × ℕ) Fault) 
       let s = progress End at a r xs os in
       elim (cases_lt at (length text)) [
         | inl less ↦
-            let more : form s ≡ wrong_at at = ap (λ b. cond b (Ok s) (and_then (form_at stamp_at word text room (place End at a r)) (λ p. Ok (after s p)))) (ne_eqb at (length text) (λ e. omega arith)) ∙ ap (λ q. and_then q (λ p. Ok (after s p))) (form_past at a r) in
+            let more : form s ≡ wrong_at at = ap (λ b. cond b (Ok s) (and_then (reads_form kind room End a r text at) (λ p. Ok (after s p)))) (ne_eqb at (length text) (λ e. omega arith)) ∙ ap (λ q. and_then q (λ p. Ok (after s p))) (form_past at a r) in
             ap (λ t. and_then t finish) (tries_first form s n ∙ ap (λ q. and_then q (λ t. tries form t n)) more) ∙ sym (ap (closed xs os bare at) (slice_get-get_or text at 0 less))
         | inr all ↦
-            let stays : form s ≡ Ok s = ap (λ b. cond b (Ok s) (and_then (form_at stamp_at word text room (place End at a r)) (λ p. Ok (after s p)))) (eq-eqb at (length text) (omega arith)) in
+            let stays : form s ≡ Ok s = ap (λ b. cond b (Ok s) (and_then (reads_form kind room End a r text at) (λ p. Ok (after s p)))) (eq-eqb at (length text) (omega arith)) in
             ap (λ t. and_then t finish) (tries_stay form s stays (suc n)) ∙ sym (ap (closed xs os bare at) (slice_get_past text at all) ∙ closed_bare xs os at)
       ]
 
   -- the turns from a stage on are the forms from it on
   abbrev Same : ℕ → ℕ → Type 0
-  Same fuel n = (stage : Stage) → Going stage → (at a r : ℕ) (xs : List (Atom S)) (os : List (Option Rule)) → at ≤ length text → length text ≤ n + at → length text < fuel + at → and_then (tries form (progress stage at a r xs os) n) finish ≡ and_then (lines stamp_at word room fuel stage a r text at) (λ p. closed xs os p.0 p.1 (slice_get text p.1))
+  Same fuel n = (stage : Stage) → Going stage → (at a r : ℕ) (xs : List (Atom S)) (os : List (Option Rule)) → at ≤ length text → length text ≤ n + at → length text < fuel + at → and_then (tries form (progress stage at a r xs os) n) finish ≡ and_then (lines kind room fuel stage a r text at) (λ p. closed xs os p.0 p.1 (slice_get text p.1))
 
   module _ (fuel n : ℕ) (known : Same fuel n) (stage : Stage) (at a r : ℕ) (xs : List (Atom S)) (os : List (Option Rule)) (k : length text ≤ suc n + at) (m : length text < suc fuel + at) where
     -- the turns after the form that was read
-    line_same : (line : Line S) (next : ℕ) → at < next → next ≤ length text → and_then (tries form (after (progress stage at a r xs os) (line, next)) n) finish ≡ and_then (onward (lines stamp_at word room fuel) a r line text next) (λ p. closed xs os p.0 p.1 (slice_get text p.1))
+    line_same : (line : Line S) (next : ℕ) → at < next → next ≤ length text → and_then (tries form (after (progress stage at a r xs os) (line, next)) n) finish ≡ and_then (onward (lines kind room fuel) a r line text next) (λ p. closed xs os p.0 p.1 (slice_get text p.1))
     line_same order_line next l i = known Atoms tt next a r xs os i (omega arith) (omega arith)
     line_same (atom_line x) next l i =
         known Atoms tt next (a + 1) r (xs ++ (x ∷ [])) os i (omega arith) (omega arith)
-        ∙ then_same (lines stamp_at word room fuel Atoms (a + 1) r text next) _ _ (λ p. closed_atom xs os x p.0 p.1 (slice_get text p.1))
-        ∙ sym (then_then (lines stamp_at word room fuel Atoms (a + 1) r text next) (λ p. Ok (with_atom x p.0, p.1)) (λ p. closed xs os p.0 p.1 (slice_get text p.1)))
+        ∙ then_same (lines kind room fuel Atoms (a + 1) r text next) _ _ (λ p. closed_atom xs os x p.0 p.1 (slice_get text p.1))
+        ∙ sym (then_then (lines kind room fuel Atoms (a + 1) r text next) (λ p. Ok (with_atom x p.0, p.1)) (λ p. closed xs os p.0 p.1 (slice_get text p.1)))
     line_same (rule_line o) next l i =
         known Rules tt next a (r + 1) xs (os ++ (o ∷ [])) i (omega arith) (omega arith)
-        ∙ then_same (lines stamp_at word room fuel Rules a (r + 1) text next) _ _ (λ p. closed_rule xs os o p.0 p.1 (slice_get text p.1))
-        ∙ sym (then_then (lines stamp_at word room fuel Rules a (r + 1) text next) (λ p. Ok (with_rule o p.0, p.1)) (λ p. closed xs os p.0 p.1 (slice_get text p.1)))
+        ∙ then_same (lines kind room fuel Rules a (r + 1) text next) _ _ (λ p. closed_rule xs os o p.0 p.1 (slice_get text p.1))
+        ∙ sym (then_then (lines kind room fuel Rules a (r + 1) text next) (λ p. Ok (with_rule o p.0, p.1)) (λ p. closed xs os p.0 p.1 (slice_get text p.1)))
     line_same end_line next l i = past_end n next a r xs os i (omega arith)
 
-    form_same : (f : Result (Line S × ℕ) Fault) → Inside text at f → and_then (and_then (and_then f (λ p. Ok (after (progress stage at a r xs os) p))) (λ t. tries form t n)) finish ≡ and_then (and_then f (λ p. onward (lines stamp_at word room fuel) a r p.0 text p.1)) (λ p. closed xs os p.0 p.1 (slice_get text p.1))
+    form_same : (f : Result (Line S × ℕ) Fault) → Inside text at f → and_then (and_then (and_then f (λ p. Ok (after (progress stage at a r xs os) p))) (λ t. tries form t n)) finish ≡ and_then (and_then f (λ p. onward (lines kind room fuel) a r p.0 text p.1)) (λ p. closed xs os p.0 p.1 (slice_get text p.1))
     form_same (Ok p) i = line_same p.0 p.1 i.0 i.1
     form_same (Err e) i = refl
 
-  module _ (inside : (stage : Stage) → Going stage → (at a r : ℕ) → at ≤ length text → Inside text at (form_at stamp_at word text room (place stage at a r))) where
+  module _ (inside : (stage : Stage) → Going stage → (at a r : ℕ) → at ≤ length text → Inside text at (reads_form kind room stage a r text at)) where
     turns_lines : (fuel n : ℕ) → Same fuel n
     turns_lines zero n stage g at a r xs os l k m = absurd (omega arith)
     turns_lines (suc fuel) zero stage g at a r xs os l k m =
         let all : length text ≡ at = omega arith in
         ap (λ t. and_then t finish) (tries_none form (progress stage at a r xs os)) ∙ unfinished stage g at a r xs os ∙ ap wrong_at all
-        ∙ sym (ap (λ f. and_then (and_then f (λ p. onward (lines stamp_at word room fuel) a r p.0 text p.1)) (λ p. closed xs os p.0 p.1 (slice_get text p.1))) (form_ends stage g at a r (omega arith)))
+        ∙ sym (ap (λ f. and_then (and_then f (λ p. onward (lines kind room fuel) a r p.0 text p.1)) (λ p. closed xs os p.0 p.1 (slice_get text p.1))) (form_ends stage g at a r (omega arith)))
     turns_lines (suc fuel) (suc n) stage g at a r xs os l k m =
         ap (λ t. and_then t finish) (tries_first form (progress stage at a r xs os) n)
         ∙ ap (λ t. and_then (and_then t (λ t. tries form t n)) finish) (one_form_is stage g at a r xs os)
-        ∙ form_same fuel n (turns_lines fuel n) stage at a r xs os k m (form_at stamp_at word text room (place stage at a r)) (inside stage g at a r l)
+        ∙ form_same fuel n (turns_lines fuel n) stage at a r xs os k m (reads_form kind room stage a r text at) (inside stage g at a r l)
 
-    book_turns : (fuel : ℕ) → length text < fuel → book_at stamp_at word text room ≡ and_then (lines stamp_at word room fuel Start 0 0 text 0) (λ p. closed [] [] p.0 p.1 (slice_get text p.1))
+    book_turns : (fuel : ℕ) → length text < fuel → book_at kind.stamp_at kind.word text room ≡ and_then (lines kind room fuel Start 0 0 text 0) (λ p. closed [] [] p.0 p.1 (slice_get text p.1))
     unfolding book_at progress_at
     book_turns fuel l = turns_lines fuel (length text) Start tt 0 0 0 [] [] (omega arith) (omega arith) (omega arith)
 
@@ -198,18 +196,17 @@ closed_ended : {S : Type 0} (m : Meaning S) (at : ℕ) (o : Option ℕ) → clos
 closed_ended m at None = refl
 closed_ended m at (Some b) = refl
 
-module _ {S : Type 0} (stamp_at : List ℕ → ℕ → Result (S × ℕ) Fault) (word : List ℕ) (room : Counts) where
+module _ {S : Type 0} (kind : Notation S) (room : Counts) where
   -- the forms of a text from the start on, and no byte more
   abbrev pub whole : ℕ → List ℕ → ℕ → Result (Meaning S × ℕ) Fault
-  whole n text at = and_then (lines stamp_at word room n Start 0 0 text at) (λ p. ended p.0 p.1 (slice_get text p.1))
+  whole n text at = and_then (lines kind room n Start 0 0 text at) (λ p. ended p.0 p.1 (slice_get text p.1))
 
-module _ {S : Type 0} (stamp_at : List ℕ → ℕ → Result (S × ℕ) Fault) (word : List ℕ) (spells : Care → S → List ℕ → Type 0) (room : Counts)
-    (forms : (stage : Stage) → Going stage → (atoms rules : ℕ) → Agrees (λ text at. form_at stamp_at word text room (record { stage = stage; next = at; atoms = atoms; rules = rules })) (FormAt word spells room stage atoms rules) (λ _. Unit {0})) where
+module _ {S : Type 0} (kind : Notation S) (room : Counts) (forms : FormsAgree kind room) where
   -- the book of a text is that of its forms, where there may be more of them than bytes
-  pub book_whole : (text : List ℕ) (n : ℕ) → length text < n → book_at stamp_at word text room ≡ and_then (whole stamp_at word room n text 0) (λ p. Ok p.0)
+  pub book_whole : (text : List ℕ) (n : ℕ) → length text < n → book_at kind.stamp_at kind.word text room ≡ and_then (whole kind room n text 0) (λ p. Ok p.0)
   book_whole text n l =
-      book_turns stamp_at word room text
-      (λ stage g at a r i. seen_inside (FormAt word spells room stage a r) (λ line piece. form_byte word spells room stage line a r kept piece) (form_at stamp_at word text room (record { stage = stage; next = at; atoms = a; rules = r })) text at i ((forms stage g a r).seen text at))
+      book_turns kind room text
+      (λ stage g at a r i. seen_inside (FormAt kind room stage a r) (λ line piece. form_byte kind room stage line a r kept piece) (reads_form kind room stage a r text at) text at i ((forms stage g a r).seen text at))
       n l
-      ∙ then_same (lines stamp_at word room n Start 0 0 text 0) _ _ (λ p. closed_ended p.0 p.1 (slice_get text p.1))
-      ∙ sym (then_then (lines stamp_at word room n Start 0 0 text 0) (λ p. ended p.0 p.1 (slice_get text p.1)) (λ p. Ok p.0))
+      ∙ then_same (lines kind room n Start 0 0 text 0) _ _ (λ p. closed_ended p.0 p.1 (slice_get text p.1))
+      ∙ sym (then_then (lines kind room n Start 0 0 text 0) (λ p. ended p.0 p.1 (slice_get text p.1)) (λ p. Ok p.0))

@@ -7,20 +7,19 @@ use Rattle.books.specs.declared.fault.ReadFault.TheVariants.{Byte}
 use Rattle.books.specs.declared.fault.Fault.{Fault}
 use Rattle.books.specs.declared.fault.Fault.TheVariants.{Reading}
 use Rattle.text.specs.Bytes.{and_then}
-use Rattle.text.specs.Forms.{form_at}
 use Rattle.text.specs.Reads.{book_at}
 use Rattle.text.specs.declared.counts.Counts.{Counts}
-use Rattle.text.specs.declared.reader.Stage.{Stage}
 use Rattle.text.specs.declared.reader.Stage.TheVariants.{Start}
 use Rattle.grammar.specs.Pieces.{Care, shape, kept, Kept}
-use Rattle.grammar.specs.Grammar.{Spells}
 use Rattle.grammar.specs.Agreement.{AtByte, Same, Shared, Between, Seen, ShapeOnly, Reads, Agrees}
-use Rattle.grammar.proofs.Agreeing.{Reaches, Via, agrees_then, shared_from}
-use Rattle.grammar.proofs.Lines.{FormAt}
+use Rattle.grammar.proofs.Agreeing.{Reaches, Via, agrees_then, shared_from, Any}
+use Rattle.grammar.proofs.Lines.{FormsAgree}
 use Rattle.grammar.proofs.Onward.{lines, Lines, lines_rest, start_lines, lines_agree}
 use Rattle.grammar.proofs.Places.{slice_get_front, between_none}
-use Rattle.grammar.proofs.Rests.{Going, Rest, rest_spells, spells_rest, rest_roomy}
+use Rattle.grammar.proofs.Rests.{Rest, rest_spells, spells_rest, rest_roomy}
 use Rattle.grammar.proofs.Turned.{between_within, ended, whole, book_whole}
+use Rattle.grammar.specs.Notations.{Notation}
+use Rattle.grammar.specs.Theorems.{SpeltBy}
 
 -- nothing follows
 abbrev Nothing : List ℕ → Type 0
@@ -28,7 +27,7 @@ Nothing rest = rest ≡ []
 
 front_none : (bytes : List ℕ) → slice_get bytes 0 ≡ None → bytes ≡ []
 front_none [] e = refl
-front_none (b ∷ bytes) e = let z : ◌≡◌ {A = ℕ} 0 1 = cc in absurd (omega arith)
+front_none (b ∷ bytes) e = absurd (grind arith)
 
 slice_get-take : (text more : List ℕ) (n i : ℕ) → i < n → i < length text → slice_get text i ≡ slice_get (take n text ++ more) i
 slice_get-take [] more n i l k = absurd (omega arith)
@@ -86,8 +85,8 @@ module _ {S : Type 0} where
   then_ends text (Err e) = tt
 
   booked_fault : (r : Result (Meaning S × ℕ) Fault) (e : Fault) → booked r ≡ Err e → r ≡ Err e
-  booked_fault (Ok p) e h = let z : ◌≡◌ {A = ℕ} 0 1 = cc in absurd (omega arith)
-  booked_fault (Err d) e h = let same : d ≡ e = cc in ap Err same
+  booked_fault (Ok p) e h = absurd (grind arith)
+  booked_fault (Err d) e h = grind arith
 
   -- what an answer that takes all of a text has seen
   booked_seen : (G : Care → Meaning S → List ℕ → Type 0) (text : List ℕ) (m : Meaning S) (r : Result (Meaning S × ℕ) Fault) → booked r ≡ Ok m → Ends text r → Seen G r text 0 → G kept m text
@@ -96,7 +95,7 @@ module _ {S : Type 0} where
       let all : piece ≡ text = sym (b.stands ∙ ap (λ t. piece ++ t) none ∙ append-nil piece) in
       let same : p.0 ≡ m = cc in
       subst (λ k. G kept k text) same (subst (G kept p.0) all g)
-  booked_seen G text m (Err d) e n h = let z : ◌≡◌ {A = ℕ} 0 1 = cc in absurd (omega arith)
+  booked_seen G text m (Err d) e n h = absurd (grind arith)
 
   -- a book, or a fault that is no byte's where only the shape is kept
   abbrev pub BookReads : Care → Result (Meaning S) Fault → Meaning S → Type 0
@@ -108,79 +107,79 @@ module _ {S : Type 0} where
 
   -- such an answer is no byte's refusal
   never_byte : (c : Care) (answer : Result (Meaning S) Fault) (m : Meaning S) (k : ℕ) → BookReads c answer m → answer ≡ Err (Reading (Byte k)) → ⊥
-  never_byte c answer m k (inl e) h = let z : ◌≡◌ {A = ℕ} 0 1 = cc in omega arith
+  never_byte c answer m k (inl e) h = grind arith
   never_byte c answer m k (inr (s, (e, q, b))) h = let same : e ≡ Reading (Byte k) = cc in subst (λ f. AtByte f (λ _. ⊥)) same b
 
 -- the text up to the end of its first piece
 front_take : (text : List ℕ) (k : ℕ) (piece : List ℕ) → Between text 0 k piece → piece ≡ take k text
 front_take text k piece b = sym (ap (take k) b.stands ∙ take_at piece (drop k text) k (omega (arith, b.place)))
 
-module _ {S : Type 0} (stamp_at : List ℕ → ℕ → Result (S × ℕ) Fault) (word : List ℕ) (spells : Care → S → List ℕ → Type 0) (room : Counts)
-    (forms : (stage : Stage) → Going stage → (atoms rules : ℕ) → Agrees (λ text at. form_at stamp_at word text room (record { stage = stage; next = at; atoms = atoms; rules = rules })) (FormAt word spells room stage atoms rules) (λ _. Unit {0})) where
+module _ {S : Type 0} (kind : Notation S) (room : Counts) (forms : FormsAgree kind room) where
   -- the forms of a book, n at most
   abbrev Forms : ℕ → Care → Meaning S → List ℕ → Type 0
-  Forms n = Via (Lines word spells room n Start 0 0) Ended
+  Forms n = Via (Lines kind room n Start 0 0) Ended
 
-  abbrev book : List ℕ → Result (Meaning S) Fault
-  book text = book_at stamp_at word text room
+  -- the book of a text, where there is room for so much
+  abbrev pub book : List ℕ → Result (Meaning S) Fault
+  book text = book_at kind.stamp_at kind.word text room
 
-  whole_agrees : (n : ℕ) → Agrees (whole stamp_at word room n) (Forms n) Nothing
+  whole_agrees : (n : ℕ) → Agrees (whole kind room n) (Forms n) Nothing
   whole_agrees n =
-      agrees_then (lines stamp_at word room n Start 0 0) (λ at m text next. ended m next (slice_get text next)) (Lines word spells room n Start 0 0) Ended (λ _. Unit {0}) Nothing
-      (lines_agree stamp_at word spells room forms n Start tt 0 0) (λ at m. ended_agrees m) (λ c m k piece rest h s. tt)
+      agrees_then (lines kind room n Start 0 0) (λ at m text next. ended m next (slice_get text next)) (Lines kind room n Start 0 0) Ended Any Nothing
+      (lines_agree kind room forms n Start tt 0 0) (λ at m. ended_agrees m) (λ c m k piece rest h s. tt)
 
-  forms_rest : (n : ℕ) (c : Care) (m : Meaning S) (text : List ℕ) → Forms n c m text → Rest word spells room Start 0 0 c m text
+  forms_rest : (n : ℕ) (c : Care) (m : Meaning S) (text : List ℕ) → Forms n c m text → Rest kind room Start 0 0 c m text
   forms_rest n c m text v =
       let parts = v.parts in
       let all : parts.front ≡ text = sym (parts.whole ∙ ap (λ t. parts.front ++ t) parts.second.1 ∙ append-nil parts.front) in
-      subst (λ k. Rest word spells room Start 0 0 c k text) (sym parts.second.0)
-      (subst (Rest word spells room Start 0 0 c v.value) all (lines_rest word spells room n Start 0 0 c v.value parts.front parts.first))
+      subst (λ k. Rest kind room Start 0 0 c k text) (sym parts.second.0)
+      (subst (Rest kind room Start 0 0 c v.value) all (lines_rest kind room n Start 0 0 c v.value parts.front parts.first))
 
-  rest_forms : (n : ℕ) (c : Care) (m : Meaning S) (text : List ℕ) → length m.atoms + length m.rules < n → Rest word spells room Start 0 0 c m text → Forms (suc n) c m text
+  rest_forms : (n : ℕ) (c : Care) (m : Meaning S) (text : List ℕ) → length m.atoms + length m.rules < n → Rest kind room Start 0 0 c m text → Forms (suc n) c m text
   rest_forms n c m text l h =
-      record { value = m; parts = record { front = text; back = []; whole = sym (append-nil text); first = start_lines word spells room n 0 0 c m text l h; second = (refl, refl) } }
+      record { value = m; parts = record { front = text; back = []; whole = sym (append-nil text); first = start_lines kind room n 0 0 c m text l h; second = (refl, refl) } }
 
-  book_is : (text : List ℕ) (n : ℕ) → length text < n → book text ≡ booked (whole stamp_at word room n text 0)
-  book_is text n l = book_whole stamp_at word spells room forms text n l
+  book_is : (text : List ℕ) (n : ℕ) → length text < n → book text ≡ booked (whole kind room n text 0)
+  book_is text n l = book_whole kind room forms text n l
 
-  whole_fault : (text : List ℕ) (n : ℕ) → length text < n → (e : Fault) → book text ≡ Err e → whole stamp_at word room n text 0 ≡ Err e
-  whole_fault text n l e h = booked_fault (whole stamp_at word room n text 0) e (sym (book_is text n l) ∙ h)
+  whole_fault : (text : List ℕ) (n : ℕ) → length text < n → (e : Fault) → book text ≡ Err e → whole kind room n text 0 ≡ Err e
+  whole_fault text n l e h = booked_fault (whole kind room n text 0) e (sym (book_is text n l) ∙ h)
 
   -- a text that is read spells its book, keeping every rule, and there is room for it
-  pub book_seen : (text : List ℕ) (m : Meaning S) → book_at stamp_at word text room ≡ Ok m → Spells word spells kept m text × (length m.atoms ≤ room.atoms) × (length m.rules ≤ room.rules)
+  pub book_seen : (text : List ℕ) (m : Meaning S) → book text ≡ Ok m → SpeltBy kind kept m text × (length m.atoms ≤ room.atoms) × (length m.rules ≤ room.rules)
   book_seen text m e =
       let n = length text + 1 in
-      let seen = booked_seen (Forms n) text m (whole stamp_at word room n text 0) (sym (book_is text n (omega arith)) ∙ e) (then_ends text (lines stamp_at word room n Start 0 0 text 0)) ((whole_agrees n).seen text 0) in
+      let seen = booked_seen (Forms n) text m (whole kind room n text 0) (sym (book_is text n (omega arith)) ∙ e) (then_ends text (lines kind room n Start 0 0 text 0)) ((whole_agrees n).seen text 0) in
       let rest = forms_rest n kept m text seen in
-      let roomy = rest_roomy word spells room m text rest in
-      (rest_spells word spells room kept m text rest, roomy.0, roomy.1)
+      let roomy = rest_roomy kind room m text rest in
+      (rest_spells kind room kept m text rest, roomy.0, roomy.1)
 
   -- a text that spells a book is read as it; where only its shape is kept it may be refused, but not for a byte
-  pub book_reads : (c : Care) (text : List ℕ) (m : Meaning S) → Spells word spells c m text → Kept c ((length m.atoms ≤ room.atoms) × (length m.rules ≤ room.rules)) → (book_at stamp_at word text room ≡ Ok m) ⊎ (ShapeOnly c × ((e : Fault) × (book_at stamp_at word text room ≡ Err e) × AtByte e (λ _. ⊥)))
+  pub book_reads : (c : Care) (text : List ℕ) (m : Meaning S) → SpeltBy kind c m text → Kept c ((length m.atoms ≤ room.atoms) × (length m.rules ≤ room.rules)) → BookReads c (book text) m
   book_reads c text m h k =
       let n = length text + length m.atoms + length m.rules + 1 in
-      let parts = rest_forms n c m text (omega arith) (spells_rest word spells room c m text k h) in
+      let parts = rest_forms n c m text (omega arith) (spells_rest kind room c m text k h) in
       let reads = (whole_agrees (suc n)).reads c m text [] text 0 parts refl (sym (append-nil text)) in
-      subst (λ answer. BookReads c answer m) (sym (book_is text (suc n) (omega arith))) (booked_reads c (whole stamp_at word room (suc n) text 0) m (0 + length text) reads)
+      subst (λ answer. BookReads c answer m) (sym (book_is text (suc n) (omega arith))) (booked_reads c (whole kind room (suc n) text 0) m (0 + length text) reads)
 
   -- what stands before a byte that is refused begins a text of the grammar's shape
-  pub book_viable : (text : List ℕ) (k : ℕ) → book_at stamp_at word text room ≡ Err (Reading (Byte k)) → (k ≤ length text) × ((more : List ℕ) × (m : Meaning S) × Spells word spells shape m (take k text ++ more))
+  pub book_viable : (text : List ℕ) (k : ℕ) → book text ≡ Err (Reading (Byte k)) → (k ≤ length text) × ((more : List ℕ) × (m : Meaning S) × SpeltBy kind shape m (take k text ++ more))
   book_viable text k e =
       let n = length text + 1 in
       let (piece, more, m, b, h) = subst (λ r. Seen (Forms n) r text 0) (whole_fault text n (omega arith) (Reading (Byte k)) e) ((whole_agrees n).seen text 0) in (
         between_within text 0 k piece b (omega arith),
-        (more, m, rest_spells word spells room shape m (take k text ++ more) (subst (λ t. Rest word spells room Start 0 0 shape m (t ++ more)) (front_take text k piece b) (forms_rest n shape m (piece ++ more) h))),
+        (more, m, rest_spells kind room shape m (take k text ++ more) (subst (λ t. Rest kind room Start 0 0 shape m (t ++ more)) (front_take text k piece b) (forms_rest n shape m (piece ++ more) h))),
       )
 
   -- a byte is refused whatever follows it
-  pub book_shared : (text other : List ℕ) (k : ℕ) → book_at stamp_at word text room ≡ Err (Reading (Byte k)) → Same text other k → book_at stamp_at word other room ≡ Err (Reading (Byte k))
+  pub book_shared : (text other : List ℕ) (k : ℕ) → book text ≡ Err (Reading (Byte k)) → Same text other k → book other ≡ Err (Reading (Byte k))
   book_shared text other k e same =
       let n = length text + length other + 1 in
-      let shared = subst (λ r. Shared r (whole stamp_at word room n other 0) text other) (whole_fault text n (omega arith) (Reading (Byte k)) e) ((whole_agrees n).shared text other 0) in
+      let shared = subst (λ r. Shared r (whole kind room n other 0) text other) (whole_fault text n (omega arith) (Reading (Byte k)) e) ((whole_agrees n).shared text other 0) in
       book_is other n (omega arith) ∙ ap booked (shared same)
 
   -- so a byte is refused where no text of the grammar's shape has it
-  pub book_none : (text : List ℕ) (k : ℕ) → book_at stamp_at word text room ≡ Err (Reading (Byte k)) → k < length text → (more : List ℕ) (m : Meaning S) → Spells word spells shape m (take (k + 1) text ++ more) → ⊥
+  pub book_none : (text : List ℕ) (k : ℕ) → book text ≡ Err (Reading (Byte k)) → k < length text → (more : List ℕ) (m : Meaning S) → SpeltBy kind shape m (take (k + 1) text ++ more) → ⊥
   book_none text k e l more m h =
       let other = take (k + 1) text ++ more in
       never_byte shape (book other) m k (book_reads shape other m h tt) (book_shared text other k e (same_front text more k l))
