@@ -32,11 +32,7 @@ const READING: Slot = Slot {
 };
 
 // What making these tables is refused with; none where the book is made.
-fn made<'a>(
-    slots: &'a [Slot],
-    ticks: usize,
-    patterns: &'a [Pattern],
-) -> Option<(u8, usize, usize)> {
+fn made(slots: &[Slot], ticks: usize, patterns: &[Pattern]) -> Option<(u8, usize, usize)> {
     Repeating::make(slots, ticks, patterns).err().map(refused)
 }
 
@@ -209,9 +205,9 @@ fn steps_reach_three_ticks_back(rt: HostRuntime) -> Result<(), Fail> {
 }
 
 // What the check tells of these tables over 3 ticks, after a making over more ticks was refused.
-fn told_after_refusal<'a>(
-    slots: &'a [Slot],
-    patterns: &'a [Pattern],
+fn told_after_refusal(
+    slots: &[Slot],
+    patterns: &[Pattern],
 ) -> Result<Option<(u8, usize, usize)>, Fail> {
     let book = Repeating::make(slots, 3, patterns)?;
     if Repeating::make(slots, 1024, patterns).is_ok() {
@@ -267,14 +263,8 @@ fn striking_what_is_not_there_changes_nothing(rt: HostRuntime) -> Result<(), Fai
     let below = Repeating::make(&slots, 3, &patterns)?;
     let mut book = Struck::over(below);
     book.strike(2)?;
-    match book.strike(3) {
-        Ok(()) => return Err(Fail::new("struck a number that is not there")),
-        Err(fault) => assert_eq!(rt; refused(fault), (4, 3, 0)),
-    }
-    match book.strike(1024) {
-        Ok(()) => return Err(Fail::new("struck a number above the last")),
-        Err(fault) => assert_eq!(rt; refused(fault), (4, 1024, 0)),
-    }
+    assert_eq!(rt; book.strike(3).err().map(refused), Some((4, 3, 0)));
+    assert_eq!(rt; book.strike(1024).err().map(refused), Some((4, 1024, 0)));
     assert_eq!(rt; (book.is_struck(3), book.is_struck(1024)), (false, false));
     assert_eq!(rt;
         (book.head(0), book.head(1), book.head(2)),
