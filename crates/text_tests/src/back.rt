@@ -1,6 +1,5 @@
 // Books of other makes written out and read in again.
 use crate::begins_with;
-use books::book::Book;
 use books::fault::Values;
 use makes::body::{Body, TooLong};
 use makes::flat::Flat;
