@@ -35,11 +35,6 @@ line_of (form.Atom row) = atom_line (atom_of row)
 line_of (form.Rule row) = rule_line (option_map rule_of row)
 line_of form.End = end_line
 
--- the same, of an answer that may be a fault
-abbrev pub lined : {S : Type 0} → Result (Form S × ℕ) Fault → Result (Line S × ℕ) Fault
-lined (Ok p) = Ok (line_of p.0, p.1)
-lined (Err e) = Err e
-
 -- how a form ends, and its line
 abbrev pub closing : List ℕ
 closing = codes ")\n"

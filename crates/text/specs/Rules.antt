@@ -4,10 +4,6 @@ use Rattle.books.specs.Meaning.{Rule}
 use Rattle.books.specs.declared.fault.ReadFault.TheVariants.{TooMany, AtomMissing}
 use Rattle.books.specs.declared.fault.Fault.{Fault}
 use Rattle.books.specs.declared.fault.Fault.TheVariants.{Reading}
-use Rattle.makes.specs.Bodies.{body_items}
-use Rattle.makes.specs.Flats.{rule_of}
-use Rattle.makes.specs.declared.body.Body.{Body}
-use Rattle.makes.specs.declared.rows.RuleRow.{RuleRow}
 use Rattle.text.specs.Bytes.{and_then, pass_at}
 use Rattle.text.specs.Turns.{tries}
 use Rattle.text.specs.Numbers.{number_at}
@@ -50,11 +46,6 @@ body_at text site before at =
     (λ q. and_then (tries (one_literal text site before) (no_atom q) 7)
     (λ l. Ok (l.atoms, l.next)))
 
--- a body that was read, by its atoms
-abbrev pub listed : Result (Body ℕ × ℕ) Fault → Result (List ℕ × ℕ) Fault
-listed (Ok p) = Ok (body_items p.0, p.1)
-listed (Err e) = Err e
-
 -- the head of a rule
 abbrev pub head_at : List ℕ → Site → ℕ → Result (ℕ × ℕ) Fault
 head_at text site at =
@@ -71,8 +62,3 @@ rule_at text site at =
     (λ p. and_then (pass_at 32 text p.1)
     (λ c. and_then (body_at text site (length p.0) c)
     (λ n. Ok (record { head = h.0; positives = p.0; negatives = n.0 }, n.1)))))))
-
--- a row that was read, by its meaning
-abbrev pub ruled : Result (RuleRow × ℕ) Fault → Result (Rule × ℕ) Fault
-ruled (Ok p) = Ok (rule_of p.0, p.1)
-ruled (Err e) = Err e

@@ -1,5 +1,4 @@
 // The aisles of a route, as a text has them.
-ghost use Rattle.std.specs.Prelude.{◌≡◌};
 ghost use Rattle.text.specs.Stamps.{route_at};
 ghost use Rattle.text.specs.Cursors.{Took};
 

@@ -36,7 +36,7 @@ impl Cursor<'_> {
             if self.at - start == MAX_DIGITS {
                 break;
             }
-            value = value * 10 + digit as u64;
+            value = value * 10 + u64::from(digit);
             self.at += 1;
         }
         value

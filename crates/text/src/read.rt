@@ -89,7 +89,7 @@ fn room_of(atoms: usize, rules: usize) -> Counts
     }
 }
 
-// Reads a text into the tables, and answers how many atoms and rules it has.
+// Reads a text into the tables, and answers how many atoms and rules it has. Its fault is one of reading, the first of the text.
 // A refused text leaves both tables as they were; rows beyond what is written stay.
 pub fn read<S: Spelled>(
     text: &[u8],

@@ -5,7 +5,6 @@ use makes::rows::AtomRow;
 use stamps::route::Route;
 use stamps::tick::Tick;
 use std::test::Fail;
-use text::counts::Counts;
 use text::read::read;
 use writing::write::write;
 

@@ -1,6 +1,5 @@
 // Books of other makes written out and read in again.
 use crate::begins_with;
-use books::book::Book;
 use books::fault::Values;
 use makes::body::{Body, TooLong};
 use makes::flat::Flat;
@@ -100,11 +99,11 @@ fn a_literal_that_is_not_there_is_not_written(rt: HostRuntime) -> Result<(), Fai
         rules: &rules,
     };
     let mut sheet = [b'#'; 200];
-    let refused = match write(&book, &mut sheet) {
-        Ok(_) => return Err(Fail::new("a literal that is not there")),
-        Err(fault) => fault.refusal(),
+    let Err(fault) = write(&book, &mut sheet) else {
+        return Err(Fail::new("a literal that is not there"));
     };
-    assert!(rt; refused.number == 4 && refused.values == Values::RuleLiteral(1, 3));
+    let refusal = fault.refusal();
+    assert!(rt; refusal.number == 4 && refusal.values == Values::RuleLiteral(1, 3));
     assert!(rt; begins_with(&sheet, b"", 0));
     Ok(())
 }

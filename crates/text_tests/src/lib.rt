@@ -67,10 +67,9 @@ fn refusal<S: Mark>(
     rules: &mut [Option<RuleRow>],
 ) -> Option<Refusal> {
     let fault = read::<S>(text, atoms, rules).err()?;
-    if !atoms.iter().all(|row| marked_row(*row)) || !rules.iter().all(|row| marked_rule(*row)) {
-        return None;
-    }
-    Some(fault.refusal())
+    let stays = atoms.iter().all(|row| marked_row(*row))
+        && rules.iter().all(|row| marked_rule(*row));
+    stays.then_some(fault.refusal())
 }
 
 fn mark_row<S: Mark>() -> AtomRow<S> {

@@ -33,13 +33,11 @@ impl Book for Seven {
     }
 
     fn body_count(&self, rule: usize, sign: Sign) -> Option<usize> {
-        if rule != 0 {
-            return None;
-        }
-        match sign {
-            Sign::Positive => Some(7),
-            Sign::Negative => Some(0),
-        }
+        let count = match sign {
+            Sign::Positive => 7,
+            Sign::Negative => 0,
+        };
+        if rule == 0 { Some(count) } else { None }
     }
 
     fn body_atom(&self, rule: usize, sign: Sign, i: usize) -> Option<usize> {

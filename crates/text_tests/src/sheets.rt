@@ -21,9 +21,8 @@ fn a_sheet_one_byte_too_short(rt: HostRuntime) -> Result<(), Fail> {
     };
     let text = b"(order tick)\n(atom 0 in 10)\n(end)\n";
     let mut sheet = [b'#'; 33];
-    let fault = match write(&book, &mut sheet) {
-        Ok(_) => return Err(Fail::new("the sheet is too short")),
-        Err(fault) => fault,
+    let Err(fault) = write(&book, &mut sheet) else {
+        return Err(Fail::new("the sheet is too short"));
     };
     let refusal = fault.refusal();
     assert!(rt; refusal.number == 17 && refusal.values == Values::One(34));
@@ -40,11 +39,11 @@ fn a_sheet_one_byte_too_short(rt: HostRuntime) -> Result<(), Fail> {
 #[test]
 fn a_list_of_seven_is_not_written(rt: HostRuntime) -> Result<(), Fail> {
     let mut sheet = [b'#'; 200];
-    let refused = match write(&Seven, &mut sheet) {
-        Ok(_) => return Err(Fail::new("seven atoms in a list")),
-        Err(fault) => fault.refusal(),
+    let Err(fault) = write(&Seven, &mut sheet) else {
+        return Err(Fail::new("seven atoms in a list"));
     };
-    assert!(rt; refused.number == 3 && refused.values == Values::RuleLiteral(0, 0));
+    let refusal = fault.refusal();
+    assert!(rt; refusal.number == 3 && refusal.values == Values::RuleLiteral(0, 0));
     assert!(rt; begins_with(&sheet, b"", 0));
     Ok(())
 }
@@ -58,11 +57,11 @@ fn a_head_that_is_not_there_is_not_written(rt: HostRuntime) -> Result<(), Fail> 
         rules: &rules,
     };
     let mut sheet = [b'#'; 200];
-    let refused = match write(&book, &mut sheet) {
-        Ok(_) => return Err(Fail::new("a head that is not there")),
-        Err(fault) => fault.refusal(),
+    let Err(fault) = write(&book, &mut sheet) else {
+        return Err(Fail::new("a head that is not there"));
     };
-    assert!(rt; refused.number == 4 && refused.values == Values::RuleLiteral(0, 0));
+    let refusal = fault.refusal();
+    assert!(rt; refusal.number == 4 && refusal.values == Values::RuleLiteral(0, 0));
     assert!(rt; begins_with(&sheet, b"", 0));
     Ok(())
 }
@@ -71,15 +70,13 @@ fn a_head_that_is_not_there_is_not_written(rt: HostRuntime) -> Result<(), Fail> 
 fn is_too_large<'a>(atoms: &'a [AtomRow<Tick>], rules: &'a [Option<RuleRow>]) -> bool {
     let book = Flat { atoms, rules };
     let mut sheet = [b'#'; 64];
-    match write(&book, &mut sheet) {
-        Ok(_) => false,
-        Err(fault) => {
-            let refusal = fault.refusal();
-            refusal.number == 3
-                && refusal.values == Values::RuleLiteral(0, 0)
-                && begins_with(&sheet, b"", 0)
-        }
-    }
+    let Err(fault) = write(&book, &mut sheet) else {
+        return false;
+    };
+    let refusal = fault.refusal();
+    refusal.number == 3
+        && refusal.values == Values::RuleLiteral(0, 0)
+        && begins_with(&sheet, b"", 0)
 }
 
 #[test]
@@ -91,15 +88,13 @@ fn a_book_over_the_limits_is_not_written(rt: HostRuntime) {
 // The text is refused with this number, and the sheet stays.
 fn leaves_the_sheet(text: &[u8], number: u8) -> bool {
     let mut sheet = [b'#'; 24];
-    match canonical(
-        text,
-        &mut [mark_row::<Tick>(); 4],
-        &mut [mark_rule(); 4],
-        &mut sheet,
-    ) {
-        Ok(_) => false,
-        Err(fault) => fault.refusal().number == number && begins_with(&sheet, b"", 0),
-    }
+    let mut atoms = [mark_row::<Tick>(); 4];
+    let mut rules = [mark_rule(); 4];
+    let refused = canonical(text, &mut atoms, &mut rules, &mut sheet).is_err_and(|fault| fault
+        .refusal()
+        .number
+        == number);
+    refused && begins_with(&sheet, b"", 0)
 }
 
 #[test]

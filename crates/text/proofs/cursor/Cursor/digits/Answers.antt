@@ -9,7 +9,7 @@ pub loop-digit-preserved : goal.loop-digit-preserved
 loop-digit-preserved c =
     let i = c.loop-digit.invariant in
     let digit = rw i.same at c.in-Some.ensures.value in
-    record { same = i.same; read = read_more _ _ _ _ _ i.read _ _ digit c.in-Some.ensures.small (omega arith) (omega arith) }
+    record { same = i.same; read = rw c.from.ensures (read_more _ _ _ _ _ i.read _ _ digit c.in-Some.ensures.small (omega arith) (omega arith)) }
 
 pub returns-in_default-clause-digits : goal.returns-in_default-clause-digits
 returns-in_default-clause-digits c =
