@@ -118,9 +118,9 @@ pub route_agrees : Agrees route_at RouteSpelt Any
 route_agrees =
     agrees_same route_same
     (agrees_as to from
-    (agrees_then (listed walk 64 (0, 0)) (λ at t text m. Ok (route t, m)) Aisling Routed Any Any
+    (agrees_then
     (list_agrees walk ends 64 (0, 0) (omega arith))
-    (λ at t. agrees_done (route t) Any) (λ c t r piece rest g s. tt)))
+    (λ at t. agrees_done (route t)) (λ c t r piece rest g s. tt)))
   where
     to : (c : Care) (r : Route) (text : List ℕ) → Via Aisling Routed c r text → RouteSpelt c r text
     to c r text v =

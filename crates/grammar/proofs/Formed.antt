@@ -11,7 +11,7 @@ use Rattle.text.specs.Forms.{next_number, reading_at, in_word, out_word}
 use Rattle.text.specs.Numbers.{digit_of, number_at}
 use Rattle.text.specs.Rules.{head_at, body_at, rule_at}
 use Rattle.text.specs.Spelt.{space}
-use Rattle.text.specs.Words.{pass_word, is_byte}
+use Rattle.text.specs.Words.{is_byte}
 use Rattle.text.specs.declared.site.Site.{Site}
 use Rattle.grammar.specs.Pieces.{Care, Kept, Exactly, Followed, Numeral, largest}
 use Rattle.grammar.specs.Grammar.{Numbered, Declared, Body}
@@ -30,9 +30,8 @@ Known site v c n piece = Kept c (leb site.atoms v ≡ false) × ((n ≡ v) × (p
 pub head_agrees : (site : Site) → Agrees (λ text at. head_at text site at) (λ c n text. Declared c site.atoms n text) NoDigit
 head_agrees site =
     agrees_as to from
-    (agrees_then (λ text at. number_at text at largest) (λ at v text m. cond (leb site.atoms v) (Err (Reading (AtomMissing site.rule 0))) (Ok (v, m)))
-    (λ c v piece. Numeral c largest v piece) (Known site) NoDigit NoDigit (number_agrees largest)
-    (λ at v. agrees_unless (Reading (AtomMissing site.rule 0)) tt (λ text m. Ok (v, m)) (λ c n piece. (n ≡ v) × (piece ≡ [])) NoDigit (agrees_done v NoDigit) (leb site.atoms v))
+    (agrees_then (number_agrees largest)
+    (λ at v. agrees_unless (Reading (AtomMissing site.rule 0)) tt (agrees_done v) (leb site.atoms v))
     (λ c v n piece rest h s. subst (λ p. NoDigit (p ++ rest)) (sym h.1.1) s))
   where
     to : (c : Care) (n : ℕ) (text : List ℕ) → Via (λ c v piece. Numeral c largest v piece) (Known site) c n text → Declared c site.atoms n text
@@ -76,8 +75,8 @@ module _ {Y : Type 0} (expected : ℕ) (K : List ℕ → ℕ → Result (Y × �
   numbered_then =
       agrees_same (λ text at. next_same text at (number_at text at largest))
       (agrees_as next_to next_from
-      (agrees_then (λ text at. number_at text at largest) (λ at v text m. cond (eqb v expected) (K text m) (Err (Reading (Number at)))) Spelt Next NoDigit Stop (number_agrees largest)
-      (λ at v. agrees_if (Reading (Number at)) tt K G Stop a (eqb v expected))
+      (agrees_then (number_agrees largest)
+      (λ at v. agrees_if (Reading (Number at)) tt a (eqb v expected))
       (λ c v y piece rest h s. starts c y piece rest h.1)))
 
 abbrev Kinds : Care → Bool → List ℕ → Type 0
@@ -87,9 +86,9 @@ Kinds c k piece = Followed (Exactly out_word) (λ p. (k ≡ false) × (p ≡ [])
 pub kind_agrees : Agrees (λ text at. reading_at text at) (λ c k piece. Exactly (cond k in_word out_word) piece) Any
 kind_agrees =
     agrees_as to from
-    (agrees_choice 111 (λ text at. and_then (pass_word out_word text at) (λ next. Ok (false, next))) (λ text at. and_then (pass_word in_word text at) (λ next. Ok (true, next))) _ _ Any
-    (word_then out_word (λ text at. Ok (false, at)) (λ c k p. (k ≡ false) × (p ≡ [])) Any (agrees_done false Any))
-    (word_then in_word (λ text at. Ok (true, at)) (λ c k p. (k ≡ true) × (p ≡ [])) Any (agrees_done true Any))
+    (agrees_choice 111
+    (word_then out_word (agrees_done false))
+    (word_then in_word (agrees_done true))
     (λ c k piece rest f. ap (is_byte 111) (first_of rest f))
     (λ c k piece rest f. ap (is_byte 111) (first_of rest f)))
   where
@@ -127,13 +126,13 @@ module _ (site : Site) where
 
   negatives_agree : (h : ℕ) (p : List ℕ) → Agrees (λ text at. and_then (pass_at 32 text at) (λ m. and_then (body_at text site (length p) m) (λ n. Ok (made h p n.0, n.1)))) (Negatives h p) Any
   negatives_agree h p =
-      byte_then 32 (λ text m. and_then (body_at text site (length p) m) (λ n. Ok (made h p n.0, n.1))) (Via Bodied (Last h p)) Any
-      (agrees_then (λ text at. body_at text site (length p) at) (λ at n text m. Ok (made h p n, m)) Bodied (Last h p) Any Any (body_agrees site (length p)) (λ at n. agrees_done (made h p n) Any) (λ c n r piece rest g s. tt))
+      byte_then 32
+      (agrees_then (body_agrees site (length p)) (λ at n. agrees_done (made h p n)) (λ c n r piece rest g s. tt))
 
   positives_agree : (h : ℕ) → Agrees (λ text at. and_then (pass_at 32 text at) (λ b. and_then (body_at text site 0 b) (λ p. and_then (pass_at 32 text p.1) (λ m. and_then (body_at text site (length p.0) m) (λ n. Ok (made h p.0 n.0, n.1)))))) (Positives h) Any
   positives_agree h =
-      byte_then 32 (λ text b. and_then (body_at text site 0 b) (λ p. and_then (pass_at 32 text p.1) (λ m. and_then (body_at text site (length p.0) m) (λ n. Ok (made h p.0 n.0, n.1))))) (Via Bodied (Negatives h)) Any
-      (agrees_then (λ text at. body_at text site 0 at) (λ at p text m. and_then (pass_at 32 text m) (λ k. and_then (body_at text site (length p) k) (λ n. Ok (made h p n.0, n.1)))) Bodied (Negatives h) Any Any (body_agrees site 0) (λ at p. negatives_agree h p) (λ c p r piece rest g s. tt))
+      byte_then 32
+      (agrees_then (body_agrees site 0) (λ at p. negatives_agree h p) (λ c p r piece rest g s. tt))
 
   parts_to : (c : Care) (r : Rule) (text : List ℕ) → Followed (Exactly space) (Via Headed Positives c r) text → Parts c site.atoms r text
   parts_to c r text f =
@@ -165,6 +164,6 @@ module _ (site : Site) where
   unfolding rule_at
   rule_agrees =
       agrees_as parts_to parts_from
-      (byte_then 32 _ (Via Headed Positives) Any
-      (agrees_then (λ text at. head_at text site at) (λ at h text m. and_then (pass_at 32 text m) (λ b. and_then (body_at text site 0 b) (λ p. and_then (pass_at 32 text p.1) (λ k. and_then (body_at text site (length p.0) k) (λ n. Ok (made h p.0 n.0, n.1)))))) Headed Positives NoDigit Any (head_agrees site) (λ at h. positives_agree h)
+      (byte_then 32
+      (agrees_then (head_agrees site) (λ at h. positives_agree h)
       (λ c h r piece rest g s. ap digit_of (first_of rest g))))

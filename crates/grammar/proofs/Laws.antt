@@ -8,7 +8,6 @@ use Rattle.text.specs.Reads.{room_of}
 use Rattle.text.specs.declared.counts.Counts.{Counts}
 use Rattle.writing.specs.Replies.{checked_text, canonical_at}
 use Rattle.writing.specs.Writes.{book_gap, write_answer}
-use Rattle.grammar.specs.Agreement.{NoDigit}
 use Rattle.grammar.specs.Notations.{Notation, ticks, routes, pairs}
 use Rattle.grammar.specs.Pieces.{kept}
 use Rattle.grammar.specs.Theorems.{read_as, written_of, ReadingIsTheGrammar, WrittenIsReadBack, AcceptedComesBack, CanonicalIsUnchanged, DegreesNest, AnswerIsItsOwn, RefusedAtTheFirstByte}

@@ -20,15 +20,15 @@ use Rattle.grammar.proofs.Following.{onto}
 use Rattle.grammar.specs.Notations.{Notation}
 
 -- what is read, changed
-agrees_map : {X Y : Type 0} (f : X → Y) (P : List ℕ → ℕ → Result (X × ℕ) Fault) (G : Care → X → List ℕ → Type 0) → Agrees P G Any → Agrees (λ text at. and_then (P text at) (λ p. Ok (f p.0, p.1))) (λ c y piece. (x : X) × (y ≡ f x) × G c x piece) Any
-agrees_map f P G a =
+agrees_map : {X Y : Type 0} (f : X → Y) {P : List ℕ → ℕ → Result (X × ℕ) Fault} {G : Care → X → List ℕ → Type 0} → Agrees P G Any → Agrees (λ text at. and_then (P text at) (λ p. Ok (f p.0, p.1))) (λ c y piece. (x : X) × (y ≡ f x) × G c x piece) Any
+agrees_map f {P} {G} a =
     agrees_as
     (λ c y piece v.
     let parts = v.parts in
     let same : parts.front ≡ piece = sym (parts.whole ∙ ap (λ t. parts.front ++ t) parts.second.1 ∙ append-nil parts.front) in
     (v.value, parts.second.0, subst (G c v.value) same parts.first))
     (λ c y piece h. record { value = h.0; parts = record { front = piece; back = []; whole = sym (append-nil piece); first = h.2; second = (h.1, refl) } })
-    (agrees_then P (λ at x text next. Ok (f x, next)) G (λ x c y piece. (y ≡ f x) × (piece ≡ [])) Any Any a (λ at x. agrees_done (f x) Any) (λ c x y piece rest h s. tt))
+    (agrees_then a (λ at x. agrees_done (f x)) (λ c x y piece rest h s. tt))
 
 module _ {S : Type 0} where
   -- a book with one more atom in front
@@ -142,18 +142,17 @@ module _ {S : Type 0} (kind : Notation S) (room : Counts) where
 module _ {S : Type 0} (kind : Notation S) (room : Counts) (forms : FormsAgree kind room) where
   onward_agrees : (next : Stage → ℕ → ℕ → List ℕ → ℕ → Result (Meaning S × ℕ) Fault) (G : Stage → ℕ → ℕ → Care → Meaning S → List ℕ → Type 0) → ((stage : Stage) → Going stage → (a r : ℕ) → Agrees (next stage a r) (G stage a r) Any) → (a r : ℕ) (line : Line S) → Agrees (onward next a r line) (Onward G a r line) Any
   onward_agrees next G h a r order_line = h Atoms tt a r
-  onward_agrees next G h a r (atom_line x) = agrees_map (with_atom x) (next Atoms (a + 1) r) (G Atoms (a + 1) r) (h Atoms tt (a + 1) r)
-  onward_agrees next G h a r (rule_line o) = agrees_map (with_rule o) (next Rules a (r + 1)) (G Rules a (r + 1)) (h Rules tt a (r + 1))
-  onward_agrees next G h a r end_line = agrees_done bare Any
+  onward_agrees next G h a r (atom_line x) = agrees_map (with_atom x) (h Atoms tt (a + 1) r)
+  onward_agrees next G h a r (rule_line o) = agrees_map (with_rule o) (h Rules tt a (r + 1))
+  onward_agrees next G h a r end_line = agrees_done bare
 
   -- reading on agrees with what remains
   pub lines_agree : (n : ℕ) (stage : Stage) → Going stage → (a r : ℕ) → Agrees (lines kind room n stage a r) (Lines kind room n stage a r) Any
   lines_agree zero stage g a r =
-      agrees_never (Reading (Number 0)) tt (Lines kind room zero stage a r) Any (λ c m piece h. (tt, h.1))
+      agrees_never (Reading (Number 0)) tt (λ c m piece h. (tt, h.1))
       (let s = rest_sample kind room stage g a r in (s.0, s.1, (tt, s.2)))
       (λ c m piece h. h.0)
   lines_agree (suc n) stage g a r =
-      agrees_then (reads_form kind room stage a r) (λ at line. onward (lines kind room n) a r line)
-      (FormAt kind room stage a r) (Onward (Lines kind room n) a r) Any Any (forms stage g a r)
+      agrees_then (forms stage g a r)
       (λ at line. onward_agrees (lines kind room n) (Lines kind room n) (lines_agree n) a r line)
       (λ c line m piece rest h s. tt)

@@ -8,7 +8,7 @@ use Rattle.text.specs.declared.counts.Counts.{Counts}
 use Rattle.text.specs.declared.reader.Stage.{Stage}
 use Rattle.text.specs.declared.reader.Stage.TheVariants.{Start, Atoms, Rules, End}
 use Rattle.grammar.specs.Pieces.{Care, shape, kept, Kept, Exactly, Followed}
-use Rattle.grammar.specs.Grammar.{AtomForm, AtomForms, RuleForm, RuleForms, OrderForm}
+use Rattle.grammar.specs.Grammar.{AtomForms, RuleForms, OrderForm}
 use Rattle.grammar.proofs.Following.{followed_map, regroup, ungroup}
 use Rattle.grammar.proofs.Keeping.{kept_map}
 use Rattle.grammar.proofs.Lines.{AtomNext, FormAt, Going}

@@ -1,13 +1,12 @@
 -- The form at which a reader stands agrees with the forms that are allowed there.
-use Rattle.std.proofs.Common.{◌≡◌, ℕ, cond, ◌⊎◌, List, [], ◌∷◌, ◌++◌, Some, None, Ok, codes, Result, sym, refl, ap, ◌∙◌, subst, inl, inr}
+use Rattle.std.proofs.Common.{◌≡◌, ℕ, cond, ◌⊎◌, List, [], ◌∷◌, ◌++◌, Some, None, codes, Result, sym, refl, ap, ◌∙◌, subst, inl, inr}
 use Rattle.std.specs.List.{slice_get}
 use Rattle.books.specs.Meaning.{Rule, Atom}
 use Rattle.books.specs.declared.fault.Fault.{Fault}
-use Rattle.text.specs.Bytes.{and_then}
 use Rattle.text.specs.Forms.{Line, order_line, atom_line, rule_line, end_line, closing, order_at}
 use Rattle.text.specs.Kinds.{order_opening, atom_opening, rule_opening, void_opening}
 use Rattle.text.specs.Spelt.{space, end_text, kind_text}
-use Rattle.text.specs.Words.{pass_word, is_byte}
+use Rattle.text.specs.Words.{is_byte}
 use Rattle.text.specs.declared.counts.Counts.{Counts}
 use Rattle.text.specs.declared.reader.Stage.{Stage}
 use Rattle.text.specs.declared.reader.Stage.TheVariants.{Start, Atoms, Rules, End}
@@ -16,7 +15,7 @@ use Rattle.grammar.specs.Grammar.{OrderForm, Numbered, Declared, Body}
 use Rattle.grammar.specs.Agreement.{Agrees, NoDigit}
 use Rattle.grammar.proofs.Agreeing.{Any, agrees_same, agrees_as, agrees_done, byte_then_at, word_then}
 use Rattle.grammar.proofs.Choosing.{agrees_choice}
-use Rattle.grammar.proofs.Dispatch.{atom_word, rule_word, void_word, rule_rest, void_rest, atom_rest, after_atom, after_rule, after_void, after_end, start_same, rules_same, atoms_same}
+use Rattle.grammar.proofs.Dispatch.{atom_word, rule_word, void_word, after_atom, after_rule, after_void, after_end, start_same, rules_same, atoms_same}
 use Rattle.grammar.proofs.Following.{under, regroup, ungroup, ended, unended, word_to, word_from, first_of, onto}
 use Rattle.grammar.proofs.Formed.{Parts}
 use Rattle.grammar.proofs.Forms.{RuleRest, rule_rest_agrees, VoidRest, void_rest_agrees, EndRest, end_rest_agrees, AtomRest, atom_rest_agrees}
@@ -72,10 +71,10 @@ module _ {S : Type 0} (kind : Notation S) (room : Counts) (stamps : Agrees kind.
   late_agrees : (at : ℕ) → Agrees (late_reader at) Late Any
   unfolding late_reader
   late_agrees at =
-      agrees_choice 114 (after_rule kind room atoms rules at) _ RuleAfter (λ c y piece. VoidAfter c y piece ⊎ EndAfter c y piece) Any
-      (word_then rule_word (rule_rest S room atoms rules at) (RuleRest S room atoms rules) Any (rule_rest_agrees S room atoms rules at))
-      (agrees_choice 118 (after_void kind room atoms rules at) (after_end kind room atoms rules) VoidAfter EndAfter Any
-      (word_then void_word (void_rest S room atoms rules at) (VoidRest S room atoms rules) Any (void_rest_agrees S room atoms rules at))
+      agrees_choice 114
+      (word_then rule_word (rule_rest_agrees S room atoms rules at))
+      (agrees_choice 118
+      (word_then void_word (void_rest_agrees S room atoms rules at))
       (end_rest_agrees S room atoms rules)
       (λ c y piece more f. ap (is_byte 118) (first_of more f))
       (λ c y piece more e. ap (λ t. is_byte 118 (slice_get (t ++ more) 0)) e.1))
@@ -124,7 +123,7 @@ module _ {S : Type 0} (kind : Notation S) (room : Counts) (stamps : Agrees kind.
   rules_agree =
       agrees_same (rules_same kind room atoms rules)
       (agrees_as (λ c y text f. late_to c y text (Late c y) f f.second) late_from
-      (byte_then_at 40 late_reader Late Any late_agrees))
+      (byte_then_at 40 late_agrees))
 
   -- among atoms
   abbrev Early : Care → Line S → List ℕ → Type 0
@@ -132,8 +131,8 @@ module _ {S : Type 0} (kind : Notation S) (room : Counts) (stamps : Agrees kind.
 
   early_agrees : (at : ℕ) → Agrees (λ text m. cond (is_byte 97 (slice_get text m)) (after_atom kind room atoms rules at text m) (late_reader at text m)) Early Any
   early_agrees at =
-      agrees_choice 97 (after_atom kind room atoms rules at) (late_reader at) AtomAfter Late Any
-      (word_then atom_word (atom_rest S room atoms rules kind.stamp_at at) (AtomRest S room atoms rules kind.stamp_at kind.spells stamps) Any (atom_rest_agrees S room atoms rules kind.stamp_at kind.spells stamps at))
+      agrees_choice 97
+      (word_then atom_word (atom_rest_agrees S room atoms rules kind.stamp_at kind.spells stamps at))
       (late_agrees at)
       (λ c y piece more f. ap (is_byte 97) (first_of more f))
       no_atom_lem
@@ -174,7 +173,7 @@ module _ {S : Type 0} (kind : Notation S) (room : Counts) (stamps : Agrees kind.
   atoms_agree =
       agrees_same (atoms_same kind room atoms rules)
       (agrees_as (λ c y text f. early_to c y text (Early c y) f f.second) early_from
-      (byte_then_at 40 (λ at text m. cond (is_byte 97 (slice_get text m)) (after_atom kind room atoms rules at text m) (late_reader at text m)) Early Any early_agrees))
+      (byte_then_at 40 early_agrees))
 
   -- before the order
   abbrev Ordered : Care → Line S → List ℕ → Type 0
@@ -197,9 +196,9 @@ module _ {S : Type 0} (kind : Notation S) (room : Counts) (stamps : Agrees kind.
   start_agrees =
       agrees_same (start_same kind room atoms rules)
       (agrees_as order_to order_from
-      (word_then order_opening (λ text a. and_then (pass_word kind.word text a) (λ b. and_then (pass_word closing text b) (λ next. Ok (order_line, next)))) _ Any
-      (word_then kind.word (λ text b. and_then (pass_word closing text b) (λ next. Ok (order_line, next))) _ Any
-      (word_then closing (λ text m. Ok (order_line, m)) (λ c y p. (y ≡ order_line) × (p ≡ [])) Any (agrees_done order_line Any)))))
+      (word_then order_opening
+      (word_then kind.word
+      (word_then closing (agrees_done order_line)))))
 
   -- at every stage but the end
   pub forms_agree : (stage : Stage) → Going stage → Agrees (reads_form kind room stage atoms rules) (FormAt kind room stage atoms rules) Any

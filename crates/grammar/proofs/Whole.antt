@@ -12,7 +12,7 @@ use Rattle.text.specs.declared.counts.Counts.{Counts}
 use Rattle.text.specs.declared.reader.Stage.TheVariants.{Start}
 use Rattle.grammar.specs.Pieces.{Care, shape, kept, Kept}
 use Rattle.grammar.specs.Agreement.{AtByte, Same, Shared, Between, Seen, ShapeOnly, Reads, Agrees}
-use Rattle.grammar.proofs.Agreeing.{Reaches, Via, agrees_then, shared_from, Any}
+use Rattle.grammar.proofs.Agreeing.{Reaches, Via, agrees_then, shared_from}
 use Rattle.grammar.proofs.Lines.{FormsAgree}
 use Rattle.grammar.proofs.Onward.{lines, Lines, lines_rest, start_lines, lines_agree}
 use Rattle.grammar.proofs.Places.{slice_get_front, between_none}
@@ -125,7 +125,7 @@ module _ {S : Type 0} (kind : Notation S) (room : Counts) (forms : FormsAgree ki
 
   whole_agrees : (n : ℕ) → Agrees (whole kind room n) (Forms n) Nothing
   whole_agrees n =
-      agrees_then (lines kind room n Start 0 0) (λ at m text next. ended m next (slice_get text next)) (Lines kind room n Start 0 0) Ended Any Nothing
+      agrees_then
       (lines_agree kind room forms n Start tt 0 0) (λ at m. ended_agrees m) (λ c m k piece rest h s. tt)
 
   forms_rest : (n : ℕ) (c : Care) (m : Meaning S) (text : List ℕ) → Forms n c m text → Rest kind room Start 0 0 c m text
