@@ -1,8 +1,8 @@
 // The walk over a book's rules by number, up to the first fault.
-ghost use Rattle.std.specs.Prelude.{◌≡◌, ℕ, ◌<◌, ◌≤◌, Option, Some};
+ghost use Rattle.std.specs.Prelude.{◌≡◌, ℕ, ◌<◌, ◌≤◌, Option, Some, cond, nat_lt};
 ghost use Rattle.books.specs.Check.{Answers, first_below, refused_by, asked_tests, barred, literal_fault, rule_walk, book_walk};
-ghost use Rattle.books.specs.declared.book.Sign.TheVariants.{Positive};
-ghost use Rattle.books.specs.Meaning.{body_count_of, literal_of};
+ghost use Rattle.books.specs.declared.book.Sign.TheVariants.{Positive, Negative};
+ghost use Rattle.books.specs.Meaning.{body_count_of, body_atom_of, literal_of};
 
 use crate::book::{Book, Sign};
 use crate::check::{MAX_ATOMS, MAX_BODY, MAX_RULES};
@@ -54,16 +54,16 @@ struct Walked<'b, B: Book> {
 }
 
 impl<'b, B: Book> Walked<'b, B> {
-    // The atom at `index` among the rule's literals, positives first.
+    // The list and the place in it of literal `index`, positives first.
     #[tactic(auto, using(crate::proofs::Literals::literal_positive, crate::proofs::Literals::literal_negative))]
-    fn literal(&self, index: usize) -> Option<usize>
-        ensures { result ≡ literal_of (B.Book.meaning self.now.book.now) self.now.rule index }
+    fn place(&self, index: usize) -> (Sign, usize)
+        ensures sign { result.0 ≡ cond (nat_lt index self.now.positives) Positive Negative }
+        ensures atom { body_atom_of (B.Book.meaning self.now.book.now) self.now.rule result.0 result.1 ≡ literal_of (B.Book.meaning self.now.book.now) self.now.rule index }
     {
         if index < self.positives {
-            self.book.body_atom(self.rule, Sign::Positive, index)
+            (Sign::Positive, index)
         } else {
-            self.book
-                .body_atom(self.rule, Sign::Negative, index - self.positives)
+            (Sign::Negative, index - self.positives)
         }
     }
 
@@ -72,7 +72,8 @@ impl<'b, B: Book> Walked<'b, B> {
         requires few { index < 12 }
         ensures { result ≡ refused_by (literal_fault (asked_tests self.now.asked B.Stamp.Order.tests) (B.Book.meaning self.now.book.now) self.now.rule self.now.positives self.now.head index) }
     {
-        let Some(atom) = self.literal(index) else {
+        let (sign, i) = self.place(index);
+        let Some(atom) = self.book.body_atom(self.rule, sign, i) else {
             return Ok(());
         };
         let rule = self.rule;
@@ -80,21 +81,14 @@ impl<'b, B: Book> Walked<'b, B> {
         let Some(stamp) = self.book.stamp(atom) else {
             return Err(CheckFault::LiteralMissing { rule, literal });
         };
-        match self.asked {
-            Asked::Declared => Ok(()),
-            Asked::Ordered => {
-                if index < self.positives {
-                    if stamp.not_after(&self.head) {
-                        Ok(())
-                    } else {
-                        Err(CheckFault::PositiveOutOfOrder { rule, literal })
-                    }
-                } else if stamp.before(&self.head) {
-                    Ok(())
-                } else {
-                    Err(CheckFault::NegativeOutOfOrder { rule, literal })
-                }
+        match (self.asked, sign) {
+            (Asked::Ordered, Sign::Positive) if !stamp.not_after(&self.head) => {
+                Err(CheckFault::PositiveOutOfOrder { rule, literal })
             }
+            (Asked::Ordered, Sign::Negative) if !stamp.before(&self.head) => {
+                Err(CheckFault::NegativeOutOfOrder { rule, literal })
+            }
+            _ => Ok(()),
         }
     }
 }

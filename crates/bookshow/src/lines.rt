@@ -42,13 +42,12 @@ where
         write_atom(self, head, f)?;
         let mut first = true;
         for (sign, no) in [(Sign::Positive, ""), (Sign::Negative, "not ")] {
-            for i in 0..self.book.body_count(rule, sign).unwrap_or(0) {
-                if let Some(atom) = self.book.body_atom(rule, sign, i) {
-                    let joint = if first { "if" } else { "and" };
-                    write!(f, " {joint} {no}")?;
-                    write_atom(self, atom, f)?;
-                    first = false;
-                }
+            let count = self.book.body_count(rule, sign).unwrap_or(0);
+            for atom in (0..count).filter_map(|i| self.book.body_atom(rule, sign, i)) {
+                let joint = if first { "if" } else { "and" };
+                write!(f, " {joint} {no}")?;
+                write_atom(self, atom, f)?;
+                first = false;
             }
         }
         Ok(())

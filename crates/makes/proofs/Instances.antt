@@ -14,7 +14,3 @@ atom_below t w xs i d all l h =
     let slot : (get_or xs i d).slot < w = grind (arith, nat_tests, list_all_at) in
     let row : (t - (get_or xs i d).back) * w ≤ t * w = mul-le-mul_right w (omega arith) in
     omega (arith, row, add-mul t 1 w)
-
--- what a step reads as beyond the end of a list
-abbrev pub no_step : Step
-no_step = record { slot = 0; back = 0 }

@@ -1,6 +1,6 @@
+pub mod Appended
 pub mod Bodies
 pub mod Instances
 pub mod Making
-pub mod Steps
 pub mod Striking
 pub mod Ticks

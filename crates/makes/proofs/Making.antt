@@ -14,7 +14,10 @@ use Rattle.makes.specs.Repeats.{steps, step_fault, slots_there, pattern_fault, m
 use Rattle.makes.specs.declared.patterns.Slot.{Slot}
 use Rattle.makes.specs.declared.patterns.Step.{Step}
 use Rattle.makes.specs.declared.patterns.Pattern.{Pattern}
-use Rattle.makes.proofs.Instances.{no_step}
+
+-- what a step reads as beyond the end of a list
+abbrev no_step : Step
+no_step = record { slot = 0; back = 0 }
 
 module _ (width k : ℕ) (p : Pattern) (fine : pattern_fault width k p ≡ None) where
   steps_fine : first_below (length (body_items p.positives) + length (body_items p.negatives)) (λ i. option_and_then (step_fault width k i) (slice_get (steps p) i)) ≡ None

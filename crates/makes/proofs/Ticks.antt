@@ -8,7 +8,7 @@ use Rattle.std.proofs.lemmas.Option.{slice_get-map, slice_get_past, gets}
 use Rattle.std.proofs.lemmas.Bool.{cases_lt}
 use Rattle.std.proofs.lemmas.Bool.Decides.{nat_tests}
 use Rattle.makes.specs.Repeats.{every_tick}
-use Rattle.makes.proofs.Steps.{slice_get-append}
+use Rattle.makes.proofs.Appended.{slice_get-append}
 
 -- where a place lies below a product, there are items
 some_items : (n w k : ℕ) → k < n * w → 0 < w

@@ -7,6 +7,7 @@ ghost use Rattle.makes.specs.Flats.{rule_of, rule_by};
 use crate::body::{Body, TooLong};
 use books::book::Sign;
 
+// Whether it is a reading is a yes or no, as the question about it is.
 #[derive(Clone, Copy, Debug)]
 pub struct AtomRow<S> {
     pub stamp: S,

@@ -8,7 +8,7 @@ use makes::rows::{AtomRow, RuleRow};
 use stamps::route::Route;
 use stamps::tick::Tick;
 
-// A refusal's number, rule and literal; a refusal with one value has that and 0.
+// A refusal's number, rule and literal, as the table of refusals has them; a refusal with one value has that and 0.
 pub(crate) fn refused(fault: Fault) -> (u8, usize, usize) {
     let refusal = fault.refusal();
     match refusal.values {

@@ -1,6 +1,5 @@
 -- A number's digits, one by one.
 use Rattle.std.proofs.Common.{◌≡◌, ℕ, ◌+◌, ◌*◌, ◌^◌, ◌<◌, ◌≤◌, List, Some, None, sym, ap, ◌∙◌, pow-suc, add-one, arith}
-use native.Mathlib.Nat.{pow-le-pow_right}
 use Rattle.text.specs.Numbers.{digit_at, digits_from, one_more, grown}
 use Rattle.text.proofs.Turned.{turns_none, turns_more, turns_end}
 
@@ -15,10 +14,6 @@ pub read_none : (text : List ℕ) (at n : ℕ) → n ≡ 0 → Read text at 0 at
 read_none text at n e = rw e (record { place = omega arith; few = omega arith; read = sym (turns_none (one_more text) (0, at)); small = omega arith })
 
 module _ (text : List ℕ) (at value next n : ℕ) (h : Read text at value next n) where
-  -- few digits make a number that fits its type by far
-  pub few_digits : n < 10 → value < 1000000000
-  few_digits l = omega (arith, h.small, pow-le-pow_right {n = 10} (omega arith) {i = n} {j = 9} (omega arith))
-
   pub read_more : (digit m : ℕ) → Some digit ≡ digit_at text next → digit < 10 → n < 10 → m ≡ n + 1 → Read text at (value * 10 + digit) (next + 1) m
   read_more digit m e d l k =
       rw k

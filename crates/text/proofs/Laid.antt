@@ -37,8 +37,9 @@ pub laid_front : (s bytes : List ℕ) → length bytes ≤ length s → laid s 0
 laid_front s bytes h = laid_after [] s bytes h
 
 -- one writing after another
-pub writes_then : {was mid is : Sheet} {xs ys : List ℕ} → Writes was xs mid → Writes mid ys is → Writes was (xs ++ ys) is
-writes_then {was} {mid} {is} {xs} {ys} h k =
+infixl 50 ◌then◌
+pub ◌then◌ : {was mid is : Sheet} {xs ys : List ℕ} → Writes was xs mid → Writes mid ys is → Writes was (xs ++ ys) is
+◌then◌ {was} {mid} {is} {xs} {ys} h k =
     let w = was.bytes.now in
     let held : is.bytes.now ≡ laid w was.at (xs ++ ys) =
     k.wrote.held ∙ ap (λ s. laid s mid.at ys) h.wrote.held ∙ ap (λ n. laid (laid w was.at xs) n ys) h.wrote.place ∙ sym (laid-append w xs ys was.at) in
@@ -63,7 +64,7 @@ writes_start was f most = record { written = writes_none was; short = omega arit
 -- one more piece
 pub writes_more : (was mid is : Sheet) (f : ℕ → List ℕ) (most i : ℕ) → WritesBelow was f most i mid → Writes mid (f i) is → is.at ≤ mid.at + most → WritesBelow was f most (i + 1) is
 unfolding up_to
-writes_more was mid is f most i h k short = record { written = rw (add-one i) (writes_then h.written k); short = let s = h.short in omega arith }
+writes_more was mid is f most i h k short = record { written = rw (add-one i) (h.written then k); short = let s = h.short in omega arith }
 
 -- the same writing, of what is the same
 pub writes_as : {was is : Sheet} {bytes : List ℕ} (bytes' : List ℕ) → bytes' ≡ bytes → Writes was bytes is → Writes was bytes' is

@@ -30,17 +30,6 @@ module _ {X : Type 0} (f : X → Result X Fault) (x : X) where
   pub tries_more : (n : ℕ) (s : X) → Ok s ≡ tries f x n → f s ≡ tries f x (n + 1)
   tries_more n s e = ap (λ r. and_then r f) e ∙ sym (turns_more (λ r. and_then r f) (Ok x) n)
 
-  -- a fault stays
-  err_more : (n : ℕ) (e : Fault) → Err e ≡ tries f x n → Err e ≡ tries f x (n + 1)
-  err_more n e h = ap (λ r. and_then r f) h ∙ sym (turns_more (λ r. and_then r f) (Ok x) n)
-
-  pub err_stays : (n k : ℕ) (e : Fault) → Err e ≡ tries f x n → Err e ≡ tries f x (n + k)
-  err_stays n zero e h = rw add-zero h
-  err_stays n (suc k) e h = let r = err_more (n + k) e (err_stays n k e h) in rw (add-suc, ← add-one) r
-
-  -- a loop over the turns that is refused at one is refused as a whole
+  -- a step that is refused is refused after more turns too, since a fault stays
   pub tries_refused : (i n : ℕ) (s : X) (e : Fault) → Ok s ≡ tries f x i → Err e ≡ f s → i < n → Err e ≡ tries f x n
-  tries_refused i n s e h r l =
-      let here : Err e ≡ tries f x (i + 1) = r ∙ tries_more i s h in
-      let end : i + 1 + (n - (i + 1)) ≡ n = omega arith in
-      err_stays (i + 1) (n - (i + 1)) e here ∙ ap (tries f x) end
+  tries_refused i n s e h r l = turns_end (λ r. and_then r f) (Ok x) (Err e) (i + 1) n refl (r ∙ tries_more i s h) (omega arith)

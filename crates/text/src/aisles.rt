@@ -8,7 +8,7 @@ use books::fault::ReadFault;
 use stamps::route::Route;
 
 // The highest aisle of a route.
-const MAX_AISLE: u64 = 63;
+pub const MAX_AISLE: u64 = 63;
 
 impl Cursor<'_> {
     // The aisles of a route, which rise.

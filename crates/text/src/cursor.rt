@@ -2,7 +2,7 @@
 ghost use Rattle.std.specs.Prelude.{◌≡◌};
 ghost use Rattle.text.specs.Bytes.{pass_at};
 ghost use Rattle.text.specs.Lists.{open_at, onward_at};
-ghost use Rattle.text.specs.Words.{pass_word};
+ghost use Rattle.text.specs.Words.{pass_word, agrees_to};
 
 use books::fault::ReadFault;
 
@@ -37,6 +37,20 @@ impl Cursor<'_> {
             self.pass(*byte)?;
         }
         Ok(())
+    }
+
+    // The place up to which the text agrees with a word.
+    pub(crate) fn agreed(&self, word: &[u8]) -> usize
+        ensures { result ≡ agrees_to word.now self.now.text.now self.now.at }
+    {
+        let mut next = self.at;
+        for byte in word {
+            match self.text.get(next) {
+                Some(found) if *found == *byte => next += 1,
+                _ => return next,
+            }
+        }
+        next
     }
 
     // Opens a list, and says whether a number follows.

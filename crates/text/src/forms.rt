@@ -11,12 +11,14 @@ use crate::cursor::Cursor;
 use crate::form::Form;
 use crate::kind::Kind;
 use crate::numbers::MAX_NUMBER;
-use crate::phrases::agreed;
 use crate::reader::{Reader, Stage};
 use crate::site::Site;
 use crate::stamp::Spelled;
 use books::fault::ReadFault;
 use makes::rows::AtomRow;
+
+// How a form ends, and its line.
+const CLOSING: &[u8] = b")\n";
 
 impl Cursor<'_> {
     // The number that must come next.
@@ -48,116 +50,91 @@ impl Cursor<'_> {
     }
 }
 
-#[tactic(auto, unfolding(crate::specs::Forms::atom_at))]
-fn atom_form<S: Spelled>(
-    cursor: &mut Cursor<'_>,
-    room: Counts,
-    reader: Reader,
-) -> Result<Form<S>, ReadFault>
-    requires { Ok cursor.old.at ≡ pass_word atom_opening cursor.old.text.now reader.next }
-    ensures roomy { IfOk result (λ f. Roomy room reader f) }
-    ensures value { TookAs line_of result cursor.old cursor.new (atom_at S.Spelled.stamp_at cursor.old.text.now room reader) }
-{
-    if reader.atoms >= room.atoms {
-        return Err(ReadFault::TooMany { place: reader.next });
-    }
-    cursor.next_number(reader.atoms)?;
-    cursor.pass(b' ')?;
-    let reading = cursor.reading()?;
-    let stamp = S::stamp(cursor)?;
-    cursor.word(b")\n")?;
-    Ok(Form::Atom(AtomRow { stamp, reading }))
-}
-
-#[tactic(auto, unfolding(crate::specs::Forms::rule_form_at))]
-fn rule_form<S: Spelled>(
-    cursor: &mut Cursor<'_>,
-    room: Counts,
-    reader: Reader,
-) -> Result<Form<S>, ReadFault>
-    requires { Ok cursor.old.at ≡ pass_word rule_opening cursor.old.text.now reader.next }
-    ensures roomy { IfOk result (λ f. Roomy room reader f) }
-    ensures value { TookAs line_of result cursor.old cursor.new (rule_form_at cursor.old.text.now room reader) }
-{
-    if reader.rules >= room.rules {
-        return Err(ReadFault::TooMany { place: reader.next });
-    }
-    cursor.next_number(reader.rules)?;
-    let row = cursor.rule(Site {
-        form: reader.next,
-        rule: reader.rules,
-        atoms: reader.atoms,
-    })?;
-    cursor.word(b")\n")?;
-    Ok(Form::Rule(Some(row)))
-}
-
-#[tactic(auto, unfolding(crate::specs::Forms::void_at))]
-fn void_form<S: Spelled>(
-    cursor: &mut Cursor<'_>,
-    room: Counts,
-    reader: Reader,
-) -> Result<Form<S>, ReadFault>
-    requires { Ok cursor.old.at ≡ pass_word void_opening cursor.old.text.now reader.next }
-    ensures roomy { IfOk result (λ f. Roomy room reader f) }
-    ensures value { TookAs line_of result cursor.old cursor.new (void_at cursor.old.text.now room reader) }
-{
-    if reader.rules >= room.rules {
-        return Err(ReadFault::TooMany { place: reader.next });
-    }
-    cursor.next_number(reader.rules)?;
-    cursor.word(b")\n")?;
-    Ok(Form::Rule(None))
-}
-
-// The place of the first byte that no form allowed at the stage has there.
-#[tactic(auto, unfolding(crate::specs::Forms::refused_at))]
-fn refused_at(text: &[u8], stage: Stage, at: usize) -> usize
-    ensures { result ≡ refused_at text.now stage at }
-{
-    let rule = agreed(text, at, Kind::Rule.opening());
-    let void = agreed(text, at, Kind::Void.opening());
-    let end = agreed(text, at, Kind::End.opening());
-    match stage {
-        Stage::Start => agreed(text, at, Kind::Order.opening()),
-        Stage::Atoms => agreed(text, at, Kind::Atom.opening()).max(rule.max(void.max(end))),
-        Stage::Rules => rule.max(void.max(end)),
-        Stage::End => at,
-    }
-}
-
-// Each form moves the reader.
-fn moved<S: Spelled>(reader: Reader, room: Counts, form: Form<S>, next: usize) -> Reader
-    requires { Roomy room reader form }
-    ensures { result ≡ moved_by reader (line_of form) next }
-{
-    match form {
-        Form::Order => Reader {
-            stage: Stage::Atoms,
-            next,
-            ..reader
-        },
-        Form::Atom(_) => Reader {
-            stage: Stage::Atoms,
-            next,
-            atoms: reader.atoms + 1,
-            ..reader
-        },
-        Form::Rule(_) => Reader {
-            stage: Stage::Rules,
-            next,
-            rules: reader.rules + 1,
-            ..reader
-        },
-        Form::End => Reader {
-            stage: Stage::End,
-            next,
-            ..reader
-        },
-    }
-}
-
 impl Reader {
+    #[tactic(auto, unfolding(crate::specs::Forms::atom_at))]
+    fn atom_form<S: Spelled>(
+        &self,
+        cursor: &mut Cursor<'_>,
+        room: Counts,
+    ) -> Result<Form<S>, ReadFault>
+        requires { Ok cursor.old.at ≡ pass_word atom_opening cursor.old.text.now self.now.next }
+        ensures roomy { IfOk result (λ f. Roomy room self.now f) }
+        ensures value { TookAs line_of result cursor.old cursor.new (atom_at S.Spelled.stamp_at cursor.old.text.now room self.now) }
+    {
+        if self.atoms >= room.atoms {
+            return Err(ReadFault::TooMany { place: self.next });
+        }
+        cursor.next_number(self.atoms)?;
+        cursor.pass(b' ')?;
+        let reading = cursor.reading()?;
+        let stamp = S::stamp(cursor)?;
+        cursor.word(CLOSING)?;
+        Ok(Form::Atom(AtomRow { stamp, reading }))
+    }
+
+    #[tactic(auto, unfolding(crate::specs::Forms::rule_form_at))]
+    fn rule_form<S: Spelled>(
+        &self,
+        cursor: &mut Cursor<'_>,
+        room: Counts,
+    ) -> Result<Form<S>, ReadFault>
+        requires { Ok cursor.old.at ≡ pass_word rule_opening cursor.old.text.now self.now.next }
+        ensures roomy { IfOk result (λ f. Roomy room self.now f) }
+        ensures value { TookAs line_of result cursor.old cursor.new (rule_form_at cursor.old.text.now room self.now) }
+    {
+        if self.rules >= room.rules {
+            return Err(ReadFault::TooMany { place: self.next });
+        }
+        cursor.next_number(self.rules)?;
+        let row = cursor.rule(Site {
+            form: self.next,
+            rule: self.rules,
+            atoms: self.atoms,
+        })?;
+        cursor.word(CLOSING)?;
+        Ok(Form::Rule(Some(row)))
+    }
+
+    #[tactic(auto, unfolding(crate::specs::Forms::void_at))]
+    fn void_form<S: Spelled>(
+        &self,
+        cursor: &mut Cursor<'_>,
+        room: Counts,
+    ) -> Result<Form<S>, ReadFault>
+        requires { Ok cursor.old.at ≡ pass_word void_opening cursor.old.text.now self.now.next }
+        ensures roomy { IfOk result (λ f. Roomy room self.now f) }
+        ensures value { TookAs line_of result cursor.old cursor.new (void_at cursor.old.text.now room self.now) }
+    {
+        if self.rules >= room.rules {
+            return Err(ReadFault::TooMany { place: self.next });
+        }
+        cursor.next_number(self.rules)?;
+        cursor.word(CLOSING)?;
+        Ok(Form::Rule(None))
+    }
+
+    // The place of the first byte that no form allowed at the stage has there.
+    #[tactic(auto, unfolding(crate::specs::Forms::refused_at))]
+    fn refused_at(&self, text: &[u8]) -> usize
+        ensures { result ≡ refused_at text.now self.now.stage self.now.next }
+    {
+        let start = Cursor {
+            text,
+            at: self.next,
+        };
+        let rule = start.agreed(Kind::Rule.opening());
+        let void = start.agreed(Kind::Void.opening());
+        let end = start.agreed(Kind::End.opening());
+        match self.stage {
+            Stage::Start => start.agreed(Kind::Order.opening()),
+            Stage::Atoms => start
+                .agreed(Kind::Atom.opening())
+                .max(rule.max(void.max(end))),
+            Stage::Rules => rule.max(void.max(end)),
+            Stage::End => self.next,
+        }
+    }
+
     // The form at which the reader stands, by its stage and the form's kind.
     #[tactic(auto, unfolding(crate::specs::Forms::form_at, crate::specs::Forms::order_at, crate::specs::Forms::end_at))]
     fn form<S: Spelled>(&self, cursor: &mut Cursor<'_>, room: Counts) -> Result<Form<S>, ReadFault>
@@ -168,19 +145,50 @@ impl Reader {
         match (self.stage, cursor.opening()) {
             (Stage::Start, Some(Kind::Order)) => {
                 cursor.word(S::word())?;
-                cursor.word(b")\n")?;
+                cursor.word(CLOSING)?;
                 Ok(Form::Order)
             }
-            (Stage::Atoms, Some(Kind::Atom)) => atom_form(cursor, room, *self),
-            (Stage::Atoms | Stage::Rules, Some(Kind::Rule)) => rule_form(cursor, room, *self),
-            (Stage::Atoms | Stage::Rules, Some(Kind::Void)) => void_form(cursor, room, *self),
+            (Stage::Atoms, Some(Kind::Atom)) => self.atom_form(cursor, room),
+            (Stage::Atoms | Stage::Rules, Some(Kind::Rule)) => self.rule_form(cursor, room),
+            (Stage::Atoms | Stage::Rules, Some(Kind::Void)) => self.void_form(cursor, room),
             (Stage::Atoms | Stage::Rules, Some(Kind::End)) => {
                 cursor.pass(b'\n')?;
                 Ok(Form::End)
             }
             _ => Err(ReadFault::Byte {
-                place: refused_at(cursor.text, self.stage, self.next),
+                place: self.refused_at(cursor.text),
             }),
+        }
+    }
+
+    // Each form moves the reader.
+    fn moved<S: Spelled>(self, room: Counts, form: Form<S>, next: usize) -> Reader
+        requires { Roomy room self form }
+        ensures { result ≡ moved_by self (line_of form) next }
+    {
+        match form {
+            Form::Order => Reader {
+                stage: Stage::Atoms,
+                next,
+                ..self
+            },
+            Form::Atom(_) => Reader {
+                stage: Stage::Atoms,
+                next,
+                atoms: self.atoms + 1,
+                ..self
+            },
+            Form::Rule(_) => Reader {
+                stage: Stage::Rules,
+                next,
+                rules: self.rules + 1,
+                ..self
+            },
+            Form::End => Reader {
+                stage: Stage::End,
+                next,
+                ..self
+            },
         }
     }
 
@@ -194,7 +202,7 @@ impl Reader {
             at: self.next,
         };
         let form = self.form::<S>(&mut cursor, room)?;
-        *self = moved(*self, room, form, cursor.at);
+        *self = self.moved(room, form, cursor.at);
         Ok(form)
     }
 }

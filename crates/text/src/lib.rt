@@ -9,7 +9,6 @@ mod forms;
 mod kind;
 mod numbers;
 pub mod order;
-mod phrases;
 pub mod read;
 mod reader;
 mod rule;

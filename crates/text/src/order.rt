@@ -2,7 +2,7 @@
 ghost use Rattle.std.specs.Prelude.{◌≡◌};
 ghost use Rattle.text.specs.Orders.{word_of, order_refused};
 
-use crate::phrases::agreed;
+use crate::cursor::Cursor;
 
 #[derive(Clone, Copy)]
 pub enum Word {
@@ -28,8 +28,9 @@ pub fn order_word(text: &[u8]) -> Option<Word>
 pub fn order_refused(text: &[u8]) -> usize
     ensures { result ≡ order_refused text.now }
 {
-    let tick = agreed(text, 0, b"(order ti");
-    let route = agreed(text, 0, b"(order r");
-    let then = agreed(text, 0, b"(order th");
+    let start = Cursor { text, at: 0 };
+    let tick = start.agreed(b"(order ti");
+    let route = start.agreed(b"(order r");
+    let then = start.agreed(b"(order th");
     tick.max(route.max(then))
 }

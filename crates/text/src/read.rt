@@ -1,6 +1,6 @@
 // Reading a whole text into tables of a flat book.
 ghost use Rattle.std.specs.Prelude.{◌≡◌, ◌≤◌, length};
-ghost use Rattle.text.specs.Reads.{as_fault, finished, survey_at, progress_at, book_at, Roomy, put_atom, put_rule, FilledBy, room_of, ReadInto};
+ghost use Rattle.text.specs.Reads.{as_fault, survey_at, progress_at, book_at, Roomy, put_atom, put_rule, FilledBy, room_of, ReadInto};
 
 use crate::counts::Counts;
 use crate::form::Form;
@@ -18,21 +18,15 @@ const START: Reader = Reader {
     rules: 0,
 };
 
-// Past the end form, with no byte left.
-fn is_finished(text: &[u8], reader: Reader) -> bool
-    ensures { result ≡ finished text.now reader }
-{
-    reader.stage.is_end() && reader.next == text.len()
-}
-
 // Goes over the whole text and says where its reader ends, which is past the end form.
+// It writes nothing, since a refused text leaves the tables as they were.
 fn survey<S: Spelled>(text: &[u8], room: Counts) -> Result<Reader, ReadFault>
     ensures { as_fault result ≡ survey_at S.Spelled.stamp_at S.Spelled.spelling text.now room }
 {
     let mut reader = START;
     // A form has a byte at least, so as many turns as bytes are enough.
     for _turn in 0..text.len() {
-        if is_finished(text, reader) {
+        if reader.is_finished(text) {
             break;
         }
         reader.step::<S>(text, room)?;
@@ -75,7 +69,7 @@ fn fill<S: Spelled>(
 {
     let mut reader = START;
     for _turn in 0..text.len() {
-        if is_finished(text, reader) {
+        if reader.is_finished(text) {
             break;
         }
         let before = reader;

@@ -29,3 +29,15 @@ pub struct Reader {
     pub atoms: usize,
     pub rules: usize,
 }
+
+impl Reader {
+    ghost use Rattle.std.specs.Prelude.{◌≡◌};
+    ghost use Rattle.text.specs.Reads.{finished};
+
+    // Past the end form, with no byte left.
+    pub(crate) fn is_finished(&self, text: &[u8]) -> bool
+        ensures { result ≡ finished text.now self.now }
+    {
+        self.stage.is_end() && self.next == text.len()
+    }
+}

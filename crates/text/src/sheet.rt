@@ -18,6 +18,7 @@ impl Sheet<'_> {
         ensures { Writes self.old bytes.now self.new }
     {
         for byte in bytes {
+            // Not `get_mut`: a proof has no lasting name for what the lent byte holds in the end.
             if self.at < self.bytes.len() {
                 self.bytes[self.at] = *byte;
             }

@@ -9,7 +9,6 @@ ghost use Rattle.text.specs.Stamps.{tick_at, pair_at, route_at, tick_word, route
 use crate::cursor::Cursor;
 use crate::numbers::MAX_NUMBER;
 use crate::sheet::Sheet;
-use crate::spelling::put_aisles;
 use books::fault::ReadFault;
 use stamps::order::Order;
 use stamps::route::Route;
@@ -117,7 +116,7 @@ impl Spelled for Route {
 
     fn spell(&self, sheet: &mut Sheet<'_>) {
         sheet.put(b"(");
-        put_aisles(sheet, self.aisles);
+        sheet.aisles(self.aisles);
         sheet.put(b")");
     }
 }

@@ -69,7 +69,7 @@ fn takes_no_more(text: &[u8], atoms: usize, rules: usize, form: &[u8]) -> Result
         &mut [mark_row::<Tick>(); 1100],
         &mut [mark_rule(); 1100],
     );
-    if !refused_at(refusal, 3, end) {
+    if refusal != refused_at(3, end) {
         return Err(Fail::new("the form is to be refused with 3 at its bracket"));
     }
     Ok(())

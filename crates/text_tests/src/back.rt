@@ -2,7 +2,7 @@
 use crate::begins_with;
 use books::book::Book;
 use books::fault::Values;
-use makes::body::Body;
+use makes::body::{Body, TooLong};
 use makes::flat::Flat;
 use makes::patterns::{Pattern, Slot, Step};
 use makes::repeating::Repeating;
@@ -15,8 +15,8 @@ use text::read::read;
 use writing::write::write;
 
 // Slot 1 of stage 1 from slot 0, and from not itself one tick back.
-fn pattern() -> Option<Pattern> {
-    Some(Pattern {
+fn pattern() -> Result<Pattern, TooLong> {
+    Ok(Pattern {
         head: 1,
         positives: Body::of(&[Step { slot: 0, back: 0 }])?,
         negatives: Body::of(&[Step { slot: 1, back: 1 }])?,
@@ -69,12 +69,8 @@ fn comes_back(text: &[u8]) -> Result<(), Fail> {
 
 #[test]
 fn a_repeating_book_is_written_and_read_back(rt: HostRuntime) -> Result<(), Fail> {
-    let Some(pattern) = pattern() else {
-        return Err(Fail::new("a list is too long"));
-    };
-    let patterns = [pattern];
-    let mut book = Repeating::empty();
-    book.make(&SLOTS, 2, &patterns)?;
+    let patterns = [pattern()?];
+    let book = Repeating::make(&SLOTS, 2, &patterns)?;
     let mut sheet = [b'#'; 256];
     let length = write(&book, &mut sheet)?;
     assert!(rt; begins_with(&sheet, REPEATED, length));
@@ -83,13 +79,8 @@ fn a_repeating_book_is_written_and_read_back(rt: HostRuntime) -> Result<(), Fail
 
 #[test]
 fn a_struck_book_is_written_and_read_back(rt: HostRuntime) -> Result<(), Fail> {
-    let Some(pattern) = pattern() else {
-        return Err(Fail::new("a list is too long"));
-    };
-    let patterns = [pattern];
-    let mut below = Repeating::empty();
-    below.make(&SLOTS, 2, &patterns)?;
-    let mut book = Struck::over(below);
+    let patterns = [pattern()?];
+    let mut book = Struck::over(Repeating::make(&SLOTS, 2, &patterns)?);
     book.strike(1)?;
     let mut sheet = [b'#'; 256];
     let length = write(&book, &mut sheet)?;
@@ -103,7 +94,7 @@ fn a_literal_that_is_not_there_is_not_written(rt: HostRuntime) -> Result<(), Fai
         stamp: Tick(3),
         reading: false,
     }];
-    let rules = [None, RuleRow::of(0, &[0], &[0, 1])];
+    let rules = [None, Some(RuleRow::of(0, &[0], &[0, 1])?)];
     let book = Flat {
         atoms: &atoms,
         rules: &rules,

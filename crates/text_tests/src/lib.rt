@@ -15,7 +15,7 @@ mod seven;
 #[cfg(test)]
 mod sheets;
 
-use books::fault::{Fault, Refusal, Values};
+use books::fault::{Fault, Layer, Refusal, Values};
 use makes::body::Body;
 use makes::rows::{AtomRow, RuleRow};
 use stamps::route::Route;
@@ -26,29 +26,19 @@ use text::stamp::Spelled;
 use writing::reply::{Tables, reply};
 
 // A stamp that stands in the tables before a text is read.
-trait Mark: Spelled {
+trait Mark: Spelled + PartialEq {
     fn mark() -> Self;
-
-    fn is_mark(&self) -> bool;
 }
 
 impl Mark for Tick {
     fn mark() -> Tick {
         Tick(7777)
     }
-
-    fn is_mark(&self) -> bool {
-        self.0 == 7777
-    }
 }
 
 impl Mark for Route {
     fn mark() -> Route {
         Route { aisles: 7777 }
-    }
-
-    fn is_mark(&self) -> bool {
-        self.aisles == 7777
     }
 }
 
@@ -59,22 +49,15 @@ impl Mark for Then<Tick, Tick> {
             second: Tick(7778),
         }
     }
-
-    fn is_mark(&self) -> bool {
-        self.first.0 == 7777 && self.second.0 == 7778
-    }
 }
 
 fn marked_row<S: Mark>(row: AtomRow<S>) -> bool {
-    row.reading && row.stamp.is_mark()
+    row.reading && row.stamp == S::mark()
 }
 
 // A rule row that no text here has.
 fn marked_rule(row: Option<RuleRow>) -> bool {
-    match row {
-        Some(rule) => rule.head == 7777,
-        None => false,
-    }
+    row.is_some_and(|rule| rule.head == 7777)
 }
 
 // Reads into marked tables; a refusal that leaves a mark changed gives none.
@@ -83,19 +66,9 @@ fn refusal<S: Mark>(
     atoms: &mut [AtomRow<S>],
     rules: &mut [Option<RuleRow>],
 ) -> Option<Refusal> {
-    let fault = match read::<S>(text, atoms, rules) {
-        Ok(_) => return None,
-        Err(fault) => fault,
-    };
-    for row in atoms.iter() {
-        if !marked_row(*row) {
-            return None;
-        }
-    }
-    for row in rules.iter() {
-        if !marked_rule(*row) {
-            return None;
-        }
+    let fault = read::<S>(text, atoms, rules).err()?;
+    if !atoms.iter().all(|row| marked_row(*row)) || !rules.iter().all(|row| marked_rule(*row)) {
+        return None;
     }
     Some(fault.refusal())
 }
@@ -108,11 +81,10 @@ fn mark_row<S: Mark>() -> AtomRow<S> {
 }
 
 fn mark_rule() -> Option<RuleRow> {
-    let empty = Body::of(&[])?;
     Some(RuleRow {
         head: 7777,
-        positives: empty,
-        negatives: empty,
+        positives: Body::empty(),
+        negatives: Body::empty(),
     })
 }
 
@@ -134,60 +106,34 @@ fn then_refusal(text: &[u8]) -> Option<Refusal> {
 
 // The fault of a text with route stamps, which says more than its refusal does.
 fn route_fault(text: &[u8]) -> Option<Fault> {
-    match read::<Route>(text, &mut [mark_row::<Route>(); 4], &mut [mark_rule(); 3]) {
-        Ok(_) => None,
-        Err(fault) => Some(fault),
-    }
-}
-
-fn same_numbers(found: &[usize], expected: &[usize]) -> bool {
-    if found.len() != expected.len() {
-        return false;
-    }
-    for (a, b) in found.iter().zip(expected.iter()) {
-        if *a != *b {
-            return false;
-        }
-    }
-    true
+    read::<Route>(text, &mut [mark_row::<Route>(); 4], &mut [mark_rule(); 3]).err()
 }
 
 // The row is a rule with this head and these lists.
 fn is_rule(row: &Option<RuleRow>, head: usize, positives: &[usize], negatives: &[usize]) -> bool {
-    match row {
-        Some(rule) => rule.head == head
-            && same_numbers(rule.positives.as_slice(), positives)
-            && same_numbers(rule.negatives.as_slice(), negatives),
-        None => false,
-    }
+    row.is_some_and(|rule| {
+        rule.head == head
+            && *rule.positives.as_slice() == *positives
+            && *rule.negatives.as_slice() == *negatives
+    })
 }
 
-// The text is refused with this number at this place, and the tables stay.
-fn refused_at(refusal: Option<Refusal>, number: u8, place: usize) -> bool {
-    match refusal {
-        Some(refusal) => {
-            refusal.number == number
-                && match refusal.values {
-                    Values::One(found) => found == place,
-                    Values::RuleLiteral(_, _) => false,
-                }
-        }
-        None => false,
-    }
+// A refusal of the reader, with the place of the fault.
+fn refused_at(number: u8, place: usize) -> Option<Refusal> {
+    Some(Refusal {
+        layer: Layer::Reading,
+        number,
+        values: Values::One(place),
+    })
 }
 
-// The text is refused with 4 at this rule and literal, and the tables stay.
-fn undeclared(text: &[u8], rule: usize, literal: usize) -> bool {
-    match tick_refusal(text) {
-        Some(refusal) => {
-            refusal.number == 4
-                && match refusal.values {
-                    Values::One(_) => false,
-                    Values::RuleLiteral(found, place) => found == rule && place == literal,
-                }
-        }
-        None => false,
-    }
+// The refusal of an atom that the text does not have, at this rule and literal.
+fn undeclared(rule: usize, literal: usize) -> Option<Refusal> {
+    Some(Refusal {
+        layer: Layer::Reading,
+        number: 4,
+        values: Values::RuleLiteral(rule, literal),
+    })
 }
 
 // What the program prints for an input, compared with what is expected.
@@ -204,44 +150,22 @@ fn replies(text: &[u8], expected: &[u8]) -> bool {
         rules: &mut rules,
     };
     let length = reply(text, tables, &mut sheet);
-    if length > sheet.len() {
-        return false;
-    }
     begins_with(&sheet, expected, length)
 }
 
 // The first `length` bytes of the sheet are the expected ones, and the rest are as they were.
 fn begins_with(sheet: &[u8], expected: &[u8], length: usize) -> bool {
-    if expected.len() != length {
-        return false;
-    }
-    for (i, byte) in sheet.iter().enumerate() {
-        let wanted = if i < expected.len() {
-            expected[i]
-        } else {
-            b'#'
-        };
-        if *byte != wanted {
-            return false;
-        }
-    }
-    true
+    sheet.split_at_checked(length).is_some_and(|(written, rest)| {
+        *written == *expected && rest.iter().all(|byte| *byte == b'#')
+    })
 }
 
 // Lays two runs of bytes on a sheet, one after the other, and answers their length. What falls beyond the end is lost.
 fn laid(sheet: &mut [u8], first: &[u8], second: &[u8]) -> usize {
-    let mut next = 0;
-    for byte in first {
-        if next < sheet.len() {
-            sheet[next] = *byte;
-            next += 1;
-        }
+    let mut length = 0;
+    for (i, byte) in first.iter().chain(second).enumerate().take(sheet.len()) {
+        sheet[i] = *byte;
+        length = i + 1;
     }
-    for byte in second {
-        if next < sheet.len() {
-            sheet[next] = *byte;
-            next += 1;
-        }
-    }
-    next
+    length
 }

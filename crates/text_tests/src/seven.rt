@@ -1,7 +1,7 @@
 // A book that no table holds: its one rule has seven positive atoms.
 ghost use Rattle.text_tests.specs.Sevens.{seven_meaning};
 
-use books::book::Book;
+use books::book::{Book, Sign};
 use stamps::tick::Tick;
 
 #[derive(Clone, Copy)]
@@ -32,22 +32,21 @@ impl Book for Seven {
         if rule == 0 { Some(0) } else { None }
     }
 
-    fn positive_count(&self, rule: usize) -> Option<usize> {
-        if rule == 0 { Some(7) } else { None }
-    }
-
-    fn negative_count(&self, rule: usize) -> Option<usize> {
-        if rule == 0 { Some(0) } else { None }
-    }
-
-    fn positive(&self, rule: usize, i: usize) -> Option<usize> {
+    fn body_count(&self, rule: usize, sign: Sign) -> Option<usize> {
         if rule != 0 {
             return None;
         }
-        if i < 7 { Some(0) } else { None }
+        match sign {
+            Sign::Positive => Some(7),
+            Sign::Negative => Some(0),
+        }
     }
 
-    fn negative(&self, _rule: usize, _i: usize) -> Option<usize> {
-        None
+    fn body_atom(&self, rule: usize, sign: Sign, i: usize) -> Option<usize> {
+        if rule == 0 && sign == Sign::Positive && i < 7 {
+            Some(0)
+        } else {
+            None
+        }
     }
 }

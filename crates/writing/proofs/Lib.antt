@@ -2,4 +2,3 @@ pub mod Lined
 pub mod Walked
 pub mod Gapless
 pub mod Replying
-pub mod Taken

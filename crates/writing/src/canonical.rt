@@ -1,5 +1,5 @@
 // From a text to its canonical spelling, for one kind of stamp.
-ghost use Rattle.std.specs.Prelude.{◌≡◌, ◌≤◌, length, take};
+ghost use Rattle.std.specs.Prelude.{length};
 ghost use Rattle.writing.specs.Replies.{checked_text, canonical_at, Replied};
 
 use crate::write::write;
@@ -21,14 +21,6 @@ where
     write(book, sheet)
 }
 
-// The first `count` rows of a table.
-fn front<T: Copy>(rows: &[T], count: usize) -> &[T]
-    requires { count ≤ length rows.now }
-    ensures { result.now ≡ take count rows.now }
-{
-    &rows[0..count]
-}
-
 // Reads a text into the tables, checks its book, and writes it in canonical spelling. A refused sheet is untouched.
 pub fn canonical<S: Spelled>(
     text: &[u8],
@@ -40,8 +32,8 @@ pub fn canonical<S: Spelled>(
 {
     let counts = read::<S>(text, atoms, rules)?;
     let book = Flat {
-        atoms: front(atoms, counts.atoms),
-        rules: front(rules, counts.rules),
+        atoms: &atoms[..counts.atoms],
+        rules: &rules[..counts.rules],
     };
     write_checked(&book, sheet)
 }

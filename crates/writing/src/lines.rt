@@ -37,6 +37,7 @@ fn put_body<B: Book>(book: &B, rule: usize, sign: Sign, sheet: &mut Sheet<'_>)
     ensures short { sheet.new.at ≤ sheet.old.at + 128 }
 {
     sheet.put(b"(");
+    // The book is asked by number: it is no collection. So are its atoms and rules below.
     for i in 0..count_in(book, rule, sign) {
         put_item(i, book.body_atom(rule, sign, i), sheet);
     }

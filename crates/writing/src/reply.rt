@@ -1,5 +1,5 @@
 // What the program that reads, checks and writes a book prints.
-ghost use Rattle.std.specs.Prelude.{◌≡◌, ◌+◌, ◌^◌, ◌<◌, ◌≤◌, length};
+ghost use Rattle.std.specs.Prelude.{◌+◌, ◌^◌, ◌<◌, ◌≤◌, length};
 ghost use Rattle.writing.specs.Replies.{values_text, refusal_text, program_at, Replied, reply_text};
 ghost use Rattle.text.specs.Written.{Wrote, Writes};
 
@@ -70,6 +70,7 @@ fn canonical_of(text: &[u8], tables: Tables<'_>, sheet: &mut [u8]) -> Result<usi
         pairs,
         rules,
     } = tables;
+    // Each order has a type of its own, so each arm is another instance of the call.
     match word {
         Word::Tick => canonical(text, ticks, rules, sheet),
         Word::Route => canonical(text, routes, rules, sheet),

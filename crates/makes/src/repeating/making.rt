@@ -19,8 +19,8 @@ fn is_within(a: usize, b: usize) -> bool
     a.checked_mul(b).is_some_and(|product| product <= MAX_ATOMS)
 }
 
-// Step `index` of a pattern, positives first.
-#[tactic(auto, using(crate::proofs::Steps::appended))]
+// Step `index` of a pattern, positives first: by its number, since a refusal tells that number.
+#[tactic(auto, using(crate::proofs::Appended::appended))]
 fn step_at(pattern: &Pattern, index: usize) -> Option<Step>
     ensures { result ≡ slice_get (steps pattern.now) index }
 {

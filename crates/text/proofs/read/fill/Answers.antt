@@ -6,11 +6,6 @@ use Rattle.text.proofs.read.fill.Goals as goal
 pub loop-turn-init : goal.loop-turn-init
 loop-turn-init g c = fills_none g.S.Spelled.stamp_at g.S.Spelled.spelling c.args.text.now c.args.room c.args.atoms.now c.args.rules.now
 
-pub put-requires : goal.put-requires
-put-requires g c =
-    let l = c.loop-turn in
-    roomier c.args.room (record { atoms = length l.atoms; rules = length l.rules }) l.reader c.in_ok-form.form (omega arith) (omega arith) c.in_ok-form.ensures.roomy
-
 pub loop-turn-preserved : goal.loop-turn-preserved
 loop-turn-preserved g c =
     let l = c.loop-turn in

@@ -1,7 +1,7 @@
 use Rattle.std.proofs.Common.{sym, ◌∙◌}
 use Rattle.std.specs.List.{slice_get}
 use Rattle.text.specs.Spelt.{kind_text}
-use Rattle.text.proofs.Laid.{writes_none, writes_then, writes_as}
+use Rattle.text.proofs.Laid.{writes_none, ◌then◌, writes_as}
 use Rattle.writing.proofs.Lined.{atom_text_lem, no_atom_lem}
 use Rattle.writing.proofs.lines.put_atom_line.Goals as goal
 
@@ -11,7 +11,7 @@ returns-clause-wrote g c =
     let o = slice_get (g.B.Book.meaning c.args.book.now).atoms c.args.atom in
     let kind = writes_as (kind_text a.reading) (sym c.kind_word.ensures.value) c.put-2.ensures in
     writes_as _ (atom_text_lem g.B.Stamp.Spelled.spelt c.args.atom o a.stamp a.reading a.ensures a.ensures')
-    (writes_then (writes_then (writes_then (writes_then c.put.ensures c.number.ensures.wrote) kind) c.spell.ensures.wrote) c.put-3.ensures)
+    (c.put.ensures then c.number.ensures.wrote then kind then c.spell.ensures.wrote then c.put-3.ensures)
 
 pub returns-in_default-2-clause-wrote : goal.returns-in_default-2-clause-wrote
 returns-in_default-2-clause-wrote g c =

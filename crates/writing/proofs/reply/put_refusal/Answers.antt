@@ -1,8 +1,8 @@
 use Rattle.std.proofs.Common.{rules}
-use Rattle.text.proofs.Laid.{writes_then}
+use Rattle.text.proofs.Laid.{◌then◌}
 use Rattle.writing.proofs.reply.put_refusal.Goals as goal
 
 pub returns : goal.returns
 returns c =
-    let w = writes_then (writes_then (writes_then (writes_then c.put.ensures c.number.ensures.wrote) c.put-2.ensures) c.put_values.ensures.wrote) c.put-3.ensures in
+    let w = c.put.ensures then c.number.ensures.wrote then c.put-2.ensures then c.put_values.ensures.wrote then c.put-3.ensures in
     search rules

@@ -1,5 +1,5 @@
-use Rattle.text.proofs.Laid.{writes_then}
+use Rattle.text.proofs.Laid.{◌then◌}
 use Rattle.text.proofs.stamp.RouteSpelled.spell.Goals as goal
 
 pub returns-clause-wrote : goal.returns-clause-wrote
-returns-clause-wrote c = writes_then (writes_then c.put.ensures c.put_aisles.ensures.wrote) c.put-2.ensures
+returns-clause-wrote c = c.put.ensures then c.aisles.ensures.wrote then c.put-2.ensures

@@ -1,7 +1,7 @@
 use Rattle.text.specs.Spelt.{aisle_text}
 use Rattle.text.proofs.Laid.{WritesBelow}
-use Rattle.text.proofs.spelling.put_aisles.Given as goal
+use Rattle.text.proofs.sheet.Sheet.aisles.Given as goal
 
 -- the aisles below this one are written
 abbrev pub invariant-loop-aisle : goal.invariant-loop-aisle
-invariant-loop-aisle l = WritesBelow l.initial.sheet (aisle_text l.aisles) 21 l.aisle l.sheet
+invariant-loop-aisle l = WritesBelow l.initial.self (aisle_text l.aisles) 21 l.aisle l.self

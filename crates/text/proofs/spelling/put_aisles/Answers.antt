@@ -1,8 +1,0 @@
-use Rattle.text.proofs.Laid.{writes_start, writes_more}
-use Rattle.text.proofs.spelling.put_aisles.Goals as goal
-
-pub loop-aisle-init : goal.loop-aisle-init
-loop-aisle-init c = writes_start _ _ _
-
-pub loop-aisle-preserved : goal.loop-aisle-preserved
-loop-aisle-preserved c = writes_more _ _ _ _ _ c.loop-aisle.aisle c.loop-aisle.invariant c.put_aisle.ensures.wrote c.put_aisle.ensures.short
