@@ -46,7 +46,7 @@ head_agrees site =
         record { value = n; parts = record { front = text; back = []; whole = sym (append-nil text); first = d.spelt; second = (kept_map c (lt-leb site.atoms n) d.declared, (refl, refl)) } }
 
 -- the number of a line and then the rest, which does not begin with a digit
-module _ {Y : Type 0} (expected : ℕ) (K : List ℕ → ℕ → Result (Y × ℕ) Fault) (G : Care → Y → List ℕ → Type 0) (Stop : List ℕ → Type 0) (a : Agrees K G Stop) (starts : (c : Care) (y : Y) (piece rest : List ℕ) → G c y piece → NoDigit (piece ++ rest)) where
+module _ {Y : Type 0} (expected : ℕ) {K : List ℕ → ℕ → Result (Y × ℕ) Fault} {G : Care → Y → List ℕ → Type 0} {Stop : List ℕ → Type 0} (a : Agrees K G Stop) (starts : (c : Care) (y : Y) (piece rest : List ℕ) → G c y piece → NoDigit (piece ++ rest)) where
   abbrev Next : ℕ → Care → Y → List ℕ → Type 0
   Next v c y piece = Kept c (eqb v expected ≡ true) × G c y piece
 
@@ -126,13 +126,11 @@ module _ (site : Site) where
 
   negatives_agree : (h : ℕ) (p : List ℕ) → Agrees (λ text at. and_then (pass_at 32 text at) (λ m. and_then (body_at text site (length p) m) (λ n. Ok (made h p n.0, n.1)))) (Negatives h p) Any
   negatives_agree h p =
-      byte_then 32
-      (agrees_then (body_agrees site (length p)) (λ at n. agrees_done (made h p n)) (λ c n r piece rest g s. tt))
+      byte_then 32 (agrees_then (body_agrees site (length p)) (λ at n. agrees_done (made h p n)) (λ c n r piece rest g s. tt))
 
   positives_agree : (h : ℕ) → Agrees (λ text at. and_then (pass_at 32 text at) (λ b. and_then (body_at text site 0 b) (λ p. and_then (pass_at 32 text p.1) (λ m. and_then (body_at text site (length p.0) m) (λ n. Ok (made h p.0 n.0, n.1)))))) (Positives h) Any
   positives_agree h =
-      byte_then 32
-      (agrees_then (body_agrees site 0) (λ at p. negatives_agree h p) (λ c p r piece rest g s. tt))
+      byte_then 32 (agrees_then (body_agrees site 0) (λ at p. negatives_agree h p) (λ c p r piece rest g s. tt))
 
   parts_to : (c : Care) (r : Rule) (text : List ℕ) → Followed (Exactly space) (Via Headed Positives c r) text → Parts c site.atoms r text
   parts_to c r text f =
@@ -140,13 +138,8 @@ module _ (site : Site) where
       let g = h.parts.second in
       let p = g.second in
       let k = p.parts.second in
-      let n = k.second in
-      let body = ended n.parts in
-      let six : Followed (Exactly space) (Bodied c n.value) p.parts.back = onto k body in
-      let five : Followed (Bodied c p.value) (Followed (Exactly space) (Bodied c n.value)) g.back = onto p.parts six in
-      let four : Followed (Exactly space) (Followed (Bodied c p.value) (Followed (Exactly space) (Bodied c n.value))) h.parts.back = onto g five in
-      subst (λ x. Parts c site.atoms x text) (sym n.parts.second.0)
-      (onto f (onto h.parts four))
+      subst (λ x. Parts c site.atoms x text) (sym k.second.parts.second.0)
+      (onto f (onto h.parts (onto g (onto p.parts (onto k (ended k.second.parts))))))
 
   parts_from : (c : Care) (r : Rule) (text : List ℕ) → Parts c site.atoms r text → Followed (Exactly space) (Via Headed Positives c r) text
   parts_from c r text f =
@@ -155,15 +148,12 @@ module _ (site : Site) where
       let p = k.second in
       let j = p.second in
       let negatives : Via Bodied (Last r.head r.positives) c r j.back = record { value = r.negatives; parts = unended refl j.second } in
-      let positives : Via Bodied (Negatives r.head) c r k.back = record { value = r.positives; parts = onto p (onto j negatives) } in
-      let head : Via Headed Positives c r f.back = record { value = r.head; parts = onto g (onto k positives) } in
-      onto f head
+      onto f (record { value = r.head; parts = onto g (onto k (record { value = r.positives; parts = onto p (onto j negatives) })) })
 
   -- reading a rule is reading its head and its two lists, each after a space
   pub rule_agrees : Agrees (λ text at. rule_at text site at) (λ c r text. Parts c site.atoms r text) Any
   unfolding rule_at
   rule_agrees =
       agrees_as parts_to parts_from
-      (byte_then 32
-      (agrees_then (head_agrees site) (λ at h. positives_agree h)
+      (byte_then 32 (agrees_then (head_agrees site) (λ at h. positives_agree h)
       (λ c h r piece rest g s. ap digit_of (first_of rest g))))

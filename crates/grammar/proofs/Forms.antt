@@ -8,7 +8,6 @@ use Rattle.books.specs.declared.fault.Fault.TheVariants.{Reading}
 use Rattle.text.specs.Bytes.{and_then, pass_at}
 use Rattle.text.specs.Forms.{Line, atom_line, rule_line, end_line, closing, reading_at, in_word, out_word}
 use Rattle.text.specs.Numbers.{digit_of}
-use Rattle.text.specs.Rules.{rule_at}
 use Rattle.text.specs.Spelt.{kind_text}
 use Rattle.text.specs.Words.{pass_word}
 use Rattle.text.specs.declared.counts.Counts.{Counts}
@@ -63,7 +62,7 @@ module _ (S : Type 0) (room : Counts) (atoms rules : ℕ) where
   rule_rest_agrees at =
       agrees_as rule_to rule_from
       (agrees_unless (Reading (TooMany at)) tt
-      (numbered_then rules (λ text b. and_then (rule_at text (record { form = at; rule = rules; atoms = atoms }) b) (λ p. and_then (pass_word closing text p.1) (λ next. Ok (rule_line (Some p.0), next)))) RuleSaid Any
+      (numbered_then rules
       (agrees_then (rule_agrees (record { form = at; rule = rules; atoms = atoms })) (λ b r. closed_agrees (rule_line (Some r))) (λ c r y piece rest g s. tt))
       said_stops)
       (leb room.rules rules))
@@ -85,7 +84,7 @@ module _ (S : Type 0) (room : Counts) (atoms rules : ℕ) where
   void_rest_agrees at =
       agrees_as void_to void_from
       (agrees_unless (Reading (TooMany at)) tt
-      (numbered_then rules (λ text b. and_then (pass_word closing text b) (λ next. Ok (rule_line None, next))) (Closed (rule_line None)) Any (closed_agrees (rule_line None)) (closed_stops (rule_line None)))
+      (numbered_then rules (closed_agrees (rule_line None)) (closed_stops (rule_line None)))
       (leb room.rules rules))
 
   -- the end, from the byte after its bracket on
@@ -96,8 +95,7 @@ module _ (S : Type 0) (room : Counts) (atoms rules : ℕ) where
   pub end_rest_agrees : Agrees (end_rest S) EndRest Any
   end_rest_agrees =
       agrees_as to from
-      (word_then end_word
-      (byte_then 10 (agrees_done end_line)))
+      (word_then end_word (byte_then 10 (agrees_done end_line)))
     where
       to : (c : Care) (y : Line S) (text : List ℕ) → Followed (Exactly end_word) (Followed (Exactly (10 ∷ [])) (λ p. (y ≡ end_line) × (p ≡ []))) text → EndRest c y text
       to c y text f =
@@ -130,17 +128,16 @@ module _ (S : Type 0) (room : Counts) (atoms rules : ℕ) where
 
     said_agrees : Agrees (λ text b. and_then (pass_at 32 text b) (λ c. and_then (reading_at text c) (λ k. and_then (stamp_at text k.1) (λ s. and_then (pass_word closing text s.1) (λ next. Ok (atom_line (record { stamp = s.0; reading = k.0 }), next)))))) AtomSaid Any
     said_agrees =
-        byte_then 32
-        (agrees_then kind_agrees (λ at k. stamped_agrees k) (λ c k y piece rest g s. tt))
+        byte_then 32 (agrees_then kind_agrees (λ at k. stamped_agrees k) (λ c k y piece rest g s. tt))
 
     -- a space and the kind's word
-    kind_to : (A : List ℕ → Type 0) (k : Bool) (piece : List ℕ) → Followed (Exactly (32 ∷ [])) (Followed (Exactly (cond k in_word out_word)) A) piece → Followed (Exactly (kind_text k)) A piece
-    kind_to A true piece f = word_to 32 in_word f
-    kind_to A false piece f = word_to 32 out_word f
+    kind_to : {A : List ℕ → Type 0} (k : Bool) {piece : List ℕ} → Followed (Exactly (32 ∷ [])) (Followed (Exactly (cond k in_word out_word)) A) piece → Followed (Exactly (kind_text k)) A piece
+    kind_to true f = word_to 32 in_word f
+    kind_to false f = word_to 32 out_word f
 
-    kind_from : (A : List ℕ → Type 0) (k : Bool) (piece : List ℕ) → Followed (Exactly (kind_text k)) A piece → Followed (Exactly (32 ∷ [])) (Followed (Exactly (cond k in_word out_word)) A) piece
-    kind_from A true piece f = word_from 32 in_word f
-    kind_from A false piece f = word_from 32 out_word f
+    kind_from : {A : List ℕ → Type 0} (k : Bool) {piece : List ℕ} → Followed (Exactly (kind_text k)) A piece → Followed (Exactly (32 ∷ [])) (Followed (Exactly (cond k in_word out_word)) A) piece
+    kind_from true f = word_from 32 in_word f
+    kind_from false f = word_from 32 out_word f
 
     atom_to : (c : Care) (y : Line S) (text : List ℕ) → Kept c (leb room.atoms atoms ≡ false) × Followed (Numbered c atoms) (AtomSaid c y) text → AtomRest c y text
     atom_to c y text (k, f) =
@@ -149,14 +146,11 @@ module _ (S : Type 0) (room : Counts) (atoms rules : ℕ) where
         let w = v.parts.second in
         let h = w.parts in
         let a : Atom S = record { stamp = w.value; reading = v.value } in
-        let stamp : Followed (spells c w.value) (Exactly closing) v.parts.back = onto h (ended h.second) in
-        let kind : Followed (Exactly (cond v.value in_word out_word)) (Followed (spells c w.value) (Exactly closing)) g.back = onto v.parts stamp in
-        let spaced = kind_to (Followed (spells c w.value) (Exactly closing)) v.value f.back (onto g kind) in
-        (a, h.second.second.0, kept_map c (leb-false room.atoms atoms) k, onto f spaced)
+        (a, h.second.second.0, kept_map c (leb-false room.atoms atoms) k, onto f (kind_to v.value (onto g (onto v.parts (onto h (ended h.second))))))
 
     atom_from : (c : Care) (y : Line S) (text : List ℕ) → AtomRest c y text → Kept c (leb room.atoms atoms ≡ false) × Followed (Numbered c atoms) (AtomSaid c y) text
     atom_from c y text (a, e, k, f) =
-        let g = kind_from (Followed (spells c a.stamp) (Exactly closing)) a.reading f.back f.second in
+        let g = kind_from a.reading f.second in
         let h = g.second in
         let i = h.second in
         let stamp : Stamped a.reading c y h.back = record { value = a.stamp; parts = onto i (unended e i.second) } in
@@ -168,6 +162,6 @@ module _ (S : Type 0) (room : Counts) (atoms rules : ℕ) where
     atom_rest_agrees at =
         agrees_as atom_to atom_from
         (agrees_unless (Reading (TooMany at)) tt
-        (numbered_then atoms (λ text b. and_then (pass_at 32 text b) (λ c. and_then (reading_at text c) (λ k. and_then (stamp_at text k.1) (λ s. and_then (pass_word closing text s.1) (λ next. Ok (atom_line (record { stamp = s.0; reading = k.0 }), next)))))) AtomSaid Any said_agrees
+        (numbered_then atoms said_agrees
         (λ c y piece rest g. starts 32 [] (Via Kinded Stamped c y) piece rest refl g))
         (leb room.atoms atoms))
