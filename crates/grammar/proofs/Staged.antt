@@ -1,17 +1,17 @@
 -- The form at which a reader stands agrees with the forms that are allowed there.
 use Rattle.std.proofs.Common.{◌≡◌, ℕ, cond, ◌⊎◌, List, [], ◌∷◌, ◌++◌, Some, None, codes, Result, sym, refl, ap, ◌∙◌, subst, inl, inr}
 use Rattle.std.specs.List.{slice_get}
-use Rattle.books.specs.Meaning.{Rule, Atom}
+use Rattle.books.specs.Meaning.{Rule}
 use Rattle.books.specs.declared.fault.Fault.{Fault}
 use Rattle.text.specs.Forms.{Line, order_line, atom_line, rule_line, end_line, closing, order_at}
-use Rattle.text.specs.Kinds.{order_opening, atom_opening, rule_opening, void_opening}
-use Rattle.text.specs.Spelt.{space, end_text, kind_text}
+use Rattle.text.specs.Kinds.{order_opening}
+use Rattle.text.specs.Spelt.{space, end_text}
 use Rattle.text.specs.Words.{is_byte}
 use Rattle.text.specs.declared.counts.Counts.{Counts}
 use Rattle.text.specs.declared.reader.Stage.{Stage}
 use Rattle.text.specs.declared.reader.Stage.TheVariants.{Start, Atoms, Rules, End}
 use Rattle.grammar.specs.Pieces.{Care, Exactly, Followed}
-use Rattle.grammar.specs.Grammar.{OrderForm, Numbered, Declared, Body}
+use Rattle.grammar.specs.Grammar.{OrderForm, Declared, Body}
 use Rattle.grammar.specs.Agreement.{Agrees, NoDigit}
 use Rattle.grammar.proofs.Agreeing.{Any, agrees_same, agrees_as, agrees_done, byte_then_at, word_then}
 use Rattle.grammar.proofs.Choosing.{agrees_choice}
@@ -86,20 +86,17 @@ module _ {S : Type 0} (kind : Notation S) (room : Counts) (stamps : Agrees kind.
       no_rule c y piece more (inr e) = ap (λ t. is_byte 114 (slice_get (t ++ more) 0)) e.1
 
   -- a bracket and then a form's word are its opening
-  opened : (rest : List ℕ) (A B : List ℕ → Type 0) (text : List ℕ) (f : Followed (Exactly (40 ∷ [])) A text) → Followed (Exactly rest) B f.back → Followed (Exactly (40 ∷ rest)) B text
-  opened rest A B text f g = word_to 40 rest (onto f g)
+  opened : (rest : List ℕ) {A B : List ℕ → Type 0} {text : List ℕ} (f : Followed (Exactly (40 ∷ [])) A text) → Followed (Exactly rest) B f.back → Followed (Exactly (40 ∷ rest)) B text
+  opened rest f g = word_to 40 rest (onto f g)
 
-  late_to : (c : Care) (y : Line S) (text : List ℕ) (A : List ℕ → Type 0) (f : Followed (Exactly (40 ∷ [])) A text) → Late c y f.back → LateForm kind room atoms rules c y text
-  late_to c y text A f (inl g) =
+  late_to : (c : Care) (y : Line S) (text : List ℕ) {A : List ℕ → Type 0} (f : Followed (Exactly (40 ∷ [])) A text) → Late c y f.back → LateForm kind room atoms rules c y text
+  late_to c y text f (inl g) =
       let (r, e, k, h) = g.second in
-      let body = under (parts_open c atoms r) h in
-      let whole : Followed (Exactly rule_opening) (Followed (Numbered c rules) (Closing c atoms r)) text = opened rule_word A (Followed (Numbered c rules) (Closing c atoms r)) text f (onto g body) in
-      subst (λ x. LateForm kind room atoms rules c x text) (sym e) (k, whole)
-  late_to c y text A f (inr (inl g)) =
+      subst (λ x. LateForm kind room atoms rules c x text) (sym e) (k, opened rule_word f (onto g (under (parts_open c atoms r) h)))
+  late_to c y text f (inr (inl g)) =
       let (e, k, h) = g.second in
-      let whole : Followed (Exactly void_opening) (Followed (Numbered c rules) (Exactly closing)) text = opened void_word A (Followed (Numbered c rules) (Exactly closing)) text f (onto g h) in
-      subst (λ x. LateForm kind room atoms rules c x text) (sym e) (k, whole)
-  late_to c y text A f (inr (inr g)) =
+      subst (λ x. LateForm kind room atoms rules c x text) (sym e) (k, opened void_word f (onto g h))
+  late_to c y text f (inr (inr g)) =
       let whole : text ≡ end_text = f.whole ∙ ap (λ t. t ++ f.back) f.first ∙ ap (λ t. 40 ∷ t) g.1 in
       subst (λ x. LateForm kind room atoms rules c x text) (sym g.0) whole
 
@@ -113,8 +110,7 @@ module _ {S : Type 0} (kind : Notation S) (room : Counts) (stamps : Agrees kind.
   late_from c (rule_line (Some r)) text h =
       let f = word_from 40 rule_word h.1 in
       let g = f.second in
-      let body = under (parts_shut c atoms r) g.second in
-      onto f (inl (onto g (r, refl, h.0, body)))
+      onto f (inl (onto g (r, refl, h.0, under (parts_shut c atoms r) g.second)))
   late_from c end_line text h =
       record { front = 40 ∷ []; back = codes "end)\n"; whole = h; first = refl; second = inr (inr (refl, refl)) }
 
@@ -122,7 +118,7 @@ module _ {S : Type 0} (kind : Notation S) (room : Counts) (stamps : Agrees kind.
   unfolding late_reader
   rules_agree =
       agrees_same (rules_same kind room atoms rules)
-      (agrees_as (λ c y text f. late_to c y text (Late c y) f f.second) late_from
+      (agrees_as (λ c y text f. late_to c y text f f.second) late_from
       (byte_then_at 40 late_agrees))
 
   -- among atoms
@@ -149,15 +145,11 @@ module _ {S : Type 0} (kind : Notation S) (room : Counts) (stamps : Agrees kind.
   late_early c (rule_line r) text h = h
   late_early c end_line text h = h
 
-  abbrev AtomTail : Care → Atom S → List ℕ → Type 0
-  AtomTail c a = Followed (Numbered c atoms) (Followed (Exactly (kind_text a.reading)) (Followed (kind.spells c a.stamp) (Exactly closing)))
-
-  early_to : (c : Care) (y : Line S) (text : List ℕ) (A : List ℕ → Type 0) (f : Followed (Exactly (40 ∷ [])) A text) → Early c y f.back → FormAt kind room Atoms atoms rules c y text
-  early_to c y text A f (inl g) =
+  early_to : (c : Care) (y : Line S) (text : List ℕ) {A : List ℕ → Type 0} (f : Followed (Exactly (40 ∷ [])) A text) → Early c y f.back → FormAt kind room Atoms atoms rules c y text
+  early_to c y text f (inl g) =
       let (a, e, k, h) = g.second in
-      let whole : Followed (Exactly atom_opening) (AtomTail c a) text = opened atom_word A (AtomTail c a) text f (onto g h) in
-      subst (λ x. FormAt kind room Atoms atoms rules c x text) (sym e) (k, whole)
-  early_to c y text A f (inr g) = late_early c y text (late_to c y text A f g)
+      subst (λ x. FormAt kind room Atoms atoms rules c x text) (sym e) (k, opened atom_word f (onto g h))
+  early_to c y text f (inr g) = late_early c y text (late_to c y text f g)
 
   early_from : (c : Care) (y : Line S) (text : List ℕ) → FormAt kind room Atoms atoms rules c y text → Followed (Exactly (40 ∷ [])) (Early c y) text
   early_from c order_line text h = absurd h
@@ -172,7 +164,7 @@ module _ {S : Type 0} (kind : Notation S) (room : Counts) (stamps : Agrees kind.
   unfolding late_reader
   atoms_agree =
       agrees_same (atoms_same kind room atoms rules)
-      (agrees_as (λ c y text f. early_to c y text (Early c y) f f.second) early_from
+      (agrees_as (λ c y text f. early_to c y text f f.second) early_from
       (byte_then_at 40 early_agrees))
 
   -- before the order
