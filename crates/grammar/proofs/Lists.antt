@@ -12,7 +12,7 @@ use Rattle.grammar.specs.Pieces.{Care, shape, Kept, Exactly, Followed, Numeral, 
 use Rattle.grammar.specs.Agreement.{AtByte, Agrees, NoDigit}
 use Rattle.grammar.proofs.Agreeing.{Any, Via, agrees_same, agrees_as, agrees_then, agrees_done, byte_then, then_then}
 use Rattle.grammar.proofs.Choosing.{agrees_choice, agrees_unless, agrees_never}
-use Rattle.grammar.proofs.Following.{followed_map, regroup, ungroup, ended, unended, first_of, onto}
+use Rattle.grammar.proofs.Following.{followed_map, regroup, ungroup, ended, unended, first_of, onto, under}
 use Rattle.grammar.proofs.Keeping.{kept_map, kept_fact, kept_three, spaced_eased, to_shape}
 use Rattle.grammar.proofs.Numbers.{number_agrees}
 use Rattle.text.specs.Lists.{open_at, onward_at, empty_if}
@@ -146,13 +146,10 @@ module _ {A : Type 0} (w : Walk A) where
   tail_on : (c : Care) (s t : A) (text : List ℕ) (v : ℕ) (f : Followed (Numbers c v) (Tested s v c t) text) → Onward (w.add s v) c t f.back → Tail c s t text
   tail_on c s t text v f (inl on) =
       let tail = on.second in
-      let spaced = Spaced c w.limit (tail.head ∷ tail.rest) in
-      let inner : Followed (Exactly (32 ∷ [])) (Followed spaced (Exactly (41 ∷ []))) f.back = onto on tail.parts in
-      let outer : Followed (Numbers c v) (Followed (Followed (Exactly (32 ∷ [])) spaced) (Exactly (41 ∷ []))) text = onto f (regroup inner) in
       record {
         head = v;
         rest = tail.head ∷ tail.rest;
-        parts = regroup outer;
+        parts = regroup (onto f (regroup (onto on tail.parts)));
         passes = kept_three (w.first s v ≡ false) (w.second s v ≡ false) (Passes (w.add s v) (tail.head ∷ tail.rest)) c f.second.0 f.second.1.0 tail.passes;
         means = tail.means;
       }
@@ -191,7 +188,7 @@ module _ {A : Type 0} (w : Walk A) where
       }
 
   onward_shaped : (c : Care) (s t : A) (piece : List ℕ) → Onward s c t piece → Onward s shape t piece
-  onward_shaped c s t piece (inl f) = inl (followed_map (λ p e. e) (tail_shaped c s t) f)
+  onward_shaped c s t piece (inl f) = inl (under (tail_shaped c s t) f)
   onward_shaped c s t piece (inr f) = inr f
 
   tested_shaped : (s : A) (v : ℕ) (c : Care) (t : A) (piece : List ℕ) → Tested s v c t piece → Tested s v shape t piece
