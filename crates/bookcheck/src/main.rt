@@ -11,18 +11,12 @@ use writing::reply::{MAX_INPUT, Tables, reply};
 
 const TABLE: usize = 1024;
 
-// All of standard input, or a little more than is ever read of it.
+// Standard input, or as much of it as shows that it is too long.
 fn input(rt: &HostRuntime) -> io::Result<Vec<u8>> {
     let mut text = Vec::new(rt.alloc());
-    let mut stdin = rt.stdin();
-    let mut part = [0u8; 4096];
-    for _ in 0..MAX_INPUT + 1 {
-        let count = stdin.read(&mut part)?;
-        if count == 0 || text.len() > MAX_INPUT {
-            break;
-        }
-        text.extend_from_slice(&part[0..count])?;
-    }
+    rt.stdin()
+        .take(MAX_INPUT as u64 + 1)
+        .read_to_end(&mut text)?;
     Ok(text)
 }
 

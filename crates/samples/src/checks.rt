@@ -2,24 +2,24 @@
 use crate::plain::Plain;
 use books::book::Book;
 use books::check::check;
-use books::fault::{Fault, Values};
+use books::fault::{Layer, Refusal, Values};
 use makes::flat::Flat;
 use makes::rows::{AtomRow, RuleRow};
 use stamps::route::Route;
 use stamps::tick::Tick;
 
-// A refusal's number, rule and literal, as the table of refusals has them; a refusal with one value has that and 0.
-pub(crate) fn refused(fault: Fault) -> (u8, usize, usize) {
-    let refusal = fault.refusal();
-    match refusal.values {
-        Values::RuleLiteral(rule, literal) => (refusal.number, rule, literal),
-        Values::One(value) => (refusal.number, value, 0),
-    }
+// A refusal of the check or of a making, as the table of refusals has it: number, rule and literal.
+pub(crate) fn refused(number: u8, rule: usize, literal: usize) -> Option<Refusal> {
+    Some(Refusal {
+        layer: Layer::Checking,
+        number,
+        values: Values::RuleLiteral(rule, literal),
+    })
 }
 
 // What the check refuses the book with; none where it passes.
-pub(crate) fn told<B: Book>(book: &B) -> Option<(u8, usize, usize)> {
-    check(book).err().map(refused)
+pub(crate) fn told<B: Book>(book: &B) -> Option<Refusal> {
+    check(book).err().map(|fault| fault.refusal())
 }
 
 fn atom(tick: u32, reading: bool) -> AtomRow<Tick> {
@@ -30,7 +30,7 @@ fn atom(tick: u32, reading: bool) -> AtomRow<Tick> {
 }
 
 // Atoms: 0 and 1 are readings at ticks 1 and 2, atoms 2 to 5 are derived at ticks 2 to 5.
-fn told_of(rules: &[Option<RuleRow>]) -> Option<(u8, usize, usize)> {
+fn told_of(rules: &[Option<RuleRow>]) -> Option<Refusal> {
     let atoms = [
         atom(1, true),
         atom(2, true),
@@ -45,7 +45,7 @@ fn told_of(rules: &[Option<RuleRow>]) -> Option<(u8, usize, usize)> {
     })
 }
 
-fn told_rule(head: usize, positives: &[usize], negatives: &[usize]) -> Option<(u8, usize, usize)> {
+fn told_rule(head: usize, positives: &[usize], negatives: &[usize]) -> Option<Refusal> {
     told_of(&[None, RuleRow::of(head, positives, negatives).ok()])
 }
 
@@ -61,37 +61,37 @@ fn plain(atoms: usize, rules: usize, positives: usize, negatives: usize) -> Plai
 
 #[test]
 fn a_head_that_is_missing_or_a_reading(rt: HostRuntime) {
-    assert_eq!(rt; told_rule(6, &[], &[]), Some((4, 1, 0)));
-    assert_eq!(rt; told_rule(1, &[0], &[]), Some((5, 1, 0)));
+    assert_eq!(rt; told_rule(6, &[], &[]), refused(4, 1, 0));
+    assert_eq!(rt; told_rule(1, &[0], &[]), refused(5, 1, 0));
     assert_eq!(rt; told_rule(5, &[], &[]), None);
 }
 
 #[test]
 fn literals_count_from_one_with_positives_first(rt: HostRuntime) {
-    assert_eq!(rt; told_rule(3, &[0, 1, 4], &[]), Some((6, 1, 3)));
-    assert_eq!(rt; told_rule(3, &[0, 1], &[1, 3]), Some((7, 1, 4)));
-    assert_eq!(rt; told_rule(3, &[0, 6], &[]), Some((4, 1, 2)));
-    assert_eq!(rt; told_rule(3, &[0], &[1, 6]), Some((4, 1, 3)));
+    assert_eq!(rt; told_rule(3, &[0, 1, 4], &[]), refused(6, 1, 3));
+    assert_eq!(rt; told_rule(3, &[0, 1], &[1, 3]), refused(7, 1, 4));
+    assert_eq!(rt; told_rule(3, &[0, 6], &[]), refused(4, 1, 2));
+    assert_eq!(rt; told_rule(3, &[0], &[1, 6]), refused(4, 1, 3));
 }
 
 #[test]
 fn level_passes_as_positive_and_not_as_negative(rt: HostRuntime) {
     assert_eq!(rt; told_rule(3, &[3], &[]), None);
-    assert_eq!(rt; told_rule(3, &[], &[3]), Some((7, 1, 1)));
+    assert_eq!(rt; told_rule(3, &[], &[3]), refused(7, 1, 1));
     assert_eq!(rt; told_rule(3, &[], &[2]), None);
 }
 
 #[test]
 fn the_fault_met_first_is_told(rt: HostRuntime) {
-    assert_eq!(rt; told_rule(3, &[6, 5], &[]), Some((4, 1, 1)));
-    assert_eq!(rt; told_rule(3, &[5, 6], &[]), Some((6, 1, 1)));
-    assert_eq!(rt; told_rule(0, &[6], &[6]), Some((5, 1, 0)));
+    assert_eq!(rt; told_rule(3, &[6, 5], &[]), refused(4, 1, 1));
+    assert_eq!(rt; told_rule(3, &[5, 6], &[]), refused(6, 1, 1));
+    assert_eq!(rt; told_rule(0, &[6], &[6]), refused(5, 1, 0));
     let both = [
         RuleRow::of(3, &[0], &[]).ok(),
         RuleRow::of(3, &[], &[5]).ok(),
         RuleRow::of(9, &[], &[]).ok(),
     ];
-    assert_eq!(rt; told_of(&both), Some((7, 1, 1)));
+    assert_eq!(rt; told_of(&both), refused(7, 1, 1));
 }
 
 #[test]
@@ -100,31 +100,31 @@ fn vacant_numbers_pass(rt: HostRuntime) {
     assert_eq!(rt; told_of(&[None, None, None]), None);
     assert_eq!(rt;
         told_of(&[None, RuleRow::of(9, &[], &[]).ok(), None]),
-        Some((4, 1, 0))
+        refused(4, 1, 0)
     );
 }
 
 #[test]
 fn counts_stand_at_their_limits(rt: HostRuntime) {
     assert_eq!(rt; told(&plain(1024, 1024, 0, 0)), None);
-    assert_eq!(rt; told(&plain(1025, 1024, 0, 0)), Some((3, 0, 0)));
-    assert_eq!(rt; told(&plain(1024, 1025, 0, 0)), Some((3, 0, 0)));
+    assert_eq!(rt; told(&plain(1025, 1024, 0, 0)), refused(3, 0, 0));
+    assert_eq!(rt; told(&plain(1024, 1025, 0, 0)), refused(3, 0, 0));
     assert_eq!(rt; told(&plain(0, 0, 0, 0)), None);
-    assert_eq!(rt; told(&plain(0, 1025, 0, 0)), Some((3, 0, 0)));
+    assert_eq!(rt; told(&plain(0, 1025, 0, 0)), refused(3, 0, 0));
 }
 
 #[test]
 fn lists_stand_at_their_limits(rt: HostRuntime) {
     assert_eq!(rt; told(&plain(1, 1, 6, 0)), None);
-    assert_eq!(rt; told(&plain(1, 1, 7, 0)), Some((3, 0, 0)));
-    assert_eq!(rt; told(&plain(1, 1, 0, 6)), Some((7, 0, 1)));
-    assert_eq!(rt; told(&plain(1, 1, 0, 7)), Some((3, 0, 0)));
-    assert_eq!(rt; told(&plain(0, 1, 7, 0)), Some((3, 0, 0)));
-    assert_eq!(rt; told(&plain(0, 1, 6, 0)), Some((4, 0, 0)));
+    assert_eq!(rt; told(&plain(1, 1, 7, 0)), refused(3, 0, 0));
+    assert_eq!(rt; told(&plain(1, 1, 0, 6)), refused(7, 0, 1));
+    assert_eq!(rt; told(&plain(1, 1, 0, 7)), refused(3, 0, 0));
+    assert_eq!(rt; told(&plain(0, 1, 7, 0)), refused(3, 0, 0));
+    assert_eq!(rt; told(&plain(0, 1, 6, 0)), refused(4, 0, 0));
 }
 
 // Atoms at the routes {2}, {5} and {2, 5}, the first a reading.
-fn told_on_routes(rules: &[Option<RuleRow>]) -> Option<(u8, usize, usize)> {
+fn told_on_routes(rules: &[Option<RuleRow>]) -> Option<Refusal> {
     let atoms = [
         AtomRow {
             stamp: Route { aisles: 4 },
@@ -149,11 +149,11 @@ fn told_on_routes(rules: &[Option<RuleRow>]) -> Option<(u8, usize, usize)> {
 fn unordered_routes_do_not_pass(rt: HostRuntime) {
     assert_eq!(rt;
         told_on_routes(&[RuleRow::of(1, &[0], &[]).ok()]),
-        Some((6, 0, 1))
+        refused(6, 0, 1)
     );
     assert_eq!(rt; told_on_routes(&[RuleRow::of(2, &[0], &[1]).ok()]), None);
     assert_eq!(rt;
         told_on_routes(&[RuleRow::of(1, &[], &[0]).ok()]),
-        Some((7, 0, 1))
+        refused(7, 0, 1)
     );
 }

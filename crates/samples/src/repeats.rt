@@ -1,6 +1,7 @@
 // Tests of the repeating and the struck book.
 use crate::checks::{refused, told};
 use books::book::{Book, Sign};
+use books::fault::Refusal;
 use makes::body::{Body, TooLong};
 use makes::patterns::{Pattern, Slot, Step};
 use makes::repeating::Repeating;
@@ -32,12 +33,10 @@ const READING: Slot = Slot {
 };
 
 // What making these tables is refused with; none where the book is made.
-fn made<'a>(
-    slots: &'a [Slot],
-    ticks: usize,
-    patterns: &'a [Pattern],
-) -> Option<(u8, usize, usize)> {
-    Repeating::make(slots, ticks, patterns).err().map(refused)
+fn made(slots: &[Slot], ticks: usize, patterns: &[Pattern]) -> Option<Refusal> {
+    Repeating::make(slots, ticks, patterns)
+        .err()
+        .map(|fault| fault.refusal())
 }
 
 #[test]
@@ -106,16 +105,16 @@ fn counts_of_a_making_stand_at_their_limits(rt: HostRuntime) -> Result<(), Fail>
         pattern(1, &[], &[])?,
     ];
     assert_eq!(rt; made(&slots, 512, &[]), None);
-    assert_eq!(rt; made(&slots, 513, &[]), Some((3, 0, 0)));
+    assert_eq!(rt; made(&slots, 513, &[]), refused(3, 0, 0));
     assert_eq!(rt; made(&slots, 341, &patterns), None);
-    assert_eq!(rt; made(&slots, 342, &patterns), Some((3, 0, 0)));
+    assert_eq!(rt; made(&slots, 342, &patterns), refused(3, 0, 0));
     assert_eq!(rt;
         made(&slots, 9_223_372_036_854_775_808, &[]),
-        Some((3, 0, 0))
+        refused(3, 0, 0)
     );
     assert_eq!(rt;
         made(&[], 18_446_744_073_709_551_615, &patterns),
-        Some((3, 0, 0))
+        refused(3, 0, 0)
     );
     Ok(())
 }
@@ -128,7 +127,7 @@ fn nothing_repeats(rt: HostRuntime) -> Result<(), Fail> {
     assert_eq!(rt; made(&slots, 4, &[]), None);
     assert_eq!(rt; made(&[], 4, &[]), None);
     assert_eq!(rt; made(&[], 18_446_744_073_709_551_615, &[]), None);
-    assert_eq!(rt; made(&[], 4, &patterns), Some((4, 0, 0)));
+    assert_eq!(rt; made(&[], 4, &patterns), refused(4, 0, 0));
     Ok(())
 }
 
@@ -148,7 +147,7 @@ fn a_missing_slot_is_told_by_pattern_and_literal(rt: HostRuntime) -> Result<(), 
     let good = pattern(1, &[step(0, 3), step(1, 0)], &[step(0, 3)])?;
     assert_eq!(rt;
         made(&slots, 2, &[good, pattern(2, &[], &[])?]),
-        Some((4, 1, 0))
+        refused(4, 1, 0)
     );
     assert_eq!(rt;
         made(
@@ -156,7 +155,7 @@ fn a_missing_slot_is_told_by_pattern_and_literal(rt: HostRuntime) -> Result<(), 
             2,
             &[good, pattern(1, &[step(1, 0), step(2, 0)], &[])?],
         ),
-        Some((4, 1, 2))
+        refused(4, 1, 2)
     );
     assert_eq!(rt;
         made(
@@ -164,7 +163,7 @@ fn a_missing_slot_is_told_by_pattern_and_literal(rt: HostRuntime) -> Result<(), 
             2,
             &[good, pattern(1, &[step(1, 0)], &[step(0, 1), step(7, 1)])?],
         ),
-        Some((4, 1, 3))
+        refused(4, 1, 3)
     );
     assert_eq!(rt;
         made(
@@ -172,15 +171,15 @@ fn a_missing_slot_is_told_by_pattern_and_literal(rt: HostRuntime) -> Result<(), 
             2,
             &[pattern(1, &[step(1, 4)], &[])?, pattern(9, &[], &[])?],
         ),
-        Some((4, 0, 1))
+        refused(4, 0, 1)
     );
     assert_eq!(rt;
         made(&slots, 2, &[pattern(0, &[], &[step(0, 0), step(0, 4)])?]),
-        Some((4, 0, 2))
+        refused(4, 0, 2)
     );
     assert_eq!(rt;
         made(&slots, 600, &[pattern(9, &[], &[])?]),
-        Some((3, 0, 0))
+        refused(3, 0, 0)
     );
     Ok(())
 }
@@ -209,10 +208,7 @@ fn steps_reach_three_ticks_back(rt: HostRuntime) -> Result<(), Fail> {
 }
 
 // What the check tells of these tables over 3 ticks, after a making over more ticks was refused.
-fn told_after_refusal<'a>(
-    slots: &'a [Slot],
-    patterns: &'a [Pattern],
-) -> Result<Option<(u8, usize, usize)>, Fail> {
+fn told_after_refusal(slots: &[Slot], patterns: &[Pattern]) -> Result<Option<Refusal>, Fail> {
     let book = Repeating::make(slots, 3, patterns)?;
     if Repeating::make(slots, 1024, patterns).is_ok() {
         return Err(Fail::new("a making over 1,024 ticks is to be refused"));
@@ -225,11 +221,11 @@ fn a_repeating_book_may_fail_the_check(rt: HostRuntime) -> Result<(), Fail> {
     let slots = [READING, PLAIN];
     assert_eq!(rt;
         told_after_refusal(&slots, &[pattern(1, &[], &[step(1, 0)])?])?,
-        Some((7, 0, 1))
+        refused(7, 0, 1)
     );
     assert_eq!(rt;
         told_after_refusal(&slots, &[pattern(0, &[], &[])?])?,
-        Some((5, 0, 0))
+        refused(5, 0, 0)
     );
     assert_eq!(rt;
         told_after_refusal(&slots, &[pattern(1, &[], &[step(1, 1)])?])?,
@@ -267,14 +263,14 @@ fn striking_what_is_not_there_changes_nothing(rt: HostRuntime) -> Result<(), Fai
     let below = Repeating::make(&slots, 3, &patterns)?;
     let mut book = Struck::over(below);
     book.strike(2)?;
-    match book.strike(3) {
-        Ok(()) => return Err(Fail::new("struck a number that is not there")),
-        Err(fault) => assert_eq!(rt; refused(fault), (4, 3, 0)),
-    }
-    match book.strike(1024) {
-        Ok(()) => return Err(Fail::new("struck a number above the last")),
-        Err(fault) => assert_eq!(rt; refused(fault), (4, 1024, 0)),
-    }
+    assert_eq!(rt;
+        book.strike(3).err().map(|fault| fault.refusal()),
+        refused(4, 3, 0)
+    );
+    assert_eq!(rt;
+        book.strike(1024).err().map(|fault| fault.refusal()),
+        refused(4, 1024, 0)
+    );
     assert_eq!(rt; (book.is_struck(3), book.is_struck(1024)), (false, false));
     assert_eq!(rt;
         (book.head(0), book.head(1), book.head(2)),
@@ -292,9 +288,9 @@ fn a_struck_book_stands_over_a_struck_book(rt: HostRuntime) -> Result<(), Fail> 
     ];
     let below = Repeating::make(&slots, 2, &patterns)?;
     let mut inner = Struck::over(below);
-    assert_eq!(rt; told(&inner), Some((7, 1, 1)));
+    assert_eq!(rt; told(&inner), refused(7, 1, 1));
     inner.strike(1)?;
-    assert_eq!(rt; told(&inner), Some((7, 3, 1)));
+    assert_eq!(rt; told(&inner), refused(7, 3, 1));
     let mut outer = Struck::over(inner);
     outer.strike(3)?;
     assert_eq!(rt; told(&outer), None);
