@@ -67,7 +67,7 @@ module _ {X Y : Type 0} (text other : List ℕ) where
   shared_then (Err e) s f g h k n = at_byte_map e (λ i a same. ap (λ b. and_then b g) (a same)) h
 
 -- a piece that is read, and then one that is read from its end on, are read together
-pub reads_then : {X Y : Type 0} (c : Care) (r : Result (X × ℕ) Fault) (f : X × ℕ → Result (Y × ℕ) Fault) (x : X) (n : ℕ) (y : Y) (m : ℕ) → Reads c r x n → Reads c (f (x, n)) y m → Reads c (and_then r f) y m
+reads_then : {X Y : Type 0} (c : Care) (r : Result (X × ℕ) Fault) (f : X × ℕ → Result (Y × ℕ) Fault) (x : X) (n : ℕ) (y : Y) (m : ℕ) → Reads c r x n → Reads c (f (x, n)) y m → Reads c (and_then r f) y m
 reads_then c r f x n y m (inl e) h = subst (λ s. Reads c (and_then s f) y m) (sym e) h
 reads_then c r f x n y m (inr (s, (e, q, b))) h = inr (s, (e, ap (λ a. and_then a f) q, b))
 
@@ -237,11 +237,11 @@ module _ (byte : ℕ) where
       ]
 
   -- the byte at a place from which a text goes on with it
-  pub front_byte : (text : List ℕ) (at : ℕ) (rest : List ℕ) → drop at text ≡ byte ∷ rest → slice_get text at ≡ Some byte
+  front_byte : (text : List ℕ) (at : ℕ) (rest : List ℕ) → drop at text ≡ byte ∷ rest → slice_get text at ≡ Some byte
   front_byte text at rest d = slice_get_front text at ∙ ap (λ t. slice_get t 0) d
 
   -- a byte that stands at the place is passed
-  pub pass_byte : (text : List ℕ) (at : ℕ) → slice_get text at ≡ Some byte → pass_at byte text at ≡ Ok (at + 1)
+  pass_byte : (text : List ℕ) (at : ℕ) → slice_get text at ≡ Some byte → pass_at byte text at ≡ Ok (at + 1)
   pass_byte text at e = rw e (grind (arith, nat_tests))
 
   agrees_byte : Agrees (λ text at. unsaid (pass_at byte text at)) Byted (λ _. Unit {0})

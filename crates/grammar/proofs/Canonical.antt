@@ -80,7 +80,7 @@ later_text (x ∷ xs) =
     ∙ ap (λ t. (space ++ decimal x) ++ t) (later_text xs)
 
 -- the numbers of a list as the writer has them, each after a space unless it is the first
-pub items_text : (xs : List ℕ) → up_to (λ i. item i (slice_get xs i)) (length xs) ≡ spaced_text xs
+items_text : (xs : List ℕ) → up_to (λ i. item i (slice_get xs i)) (length xs) ≡ spaced_text xs
 unfolding up_to
 items_text [] = refl
 items_text (x ∷ xs) =

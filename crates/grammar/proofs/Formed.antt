@@ -27,7 +27,7 @@ abbrev Known : Site → ℕ → Care → ℕ → List ℕ → Type 0
 Known site v c n piece = Kept c (leb site.atoms v ≡ false) × ((n ≡ v) × (piece ≡ []))
 
 -- the head of a rule
-pub head_agrees : (site : Site) → Agrees (λ text at. head_at text site at) (λ c n text. Declared c site.atoms n text) NoDigit
+head_agrees : (site : Site) → Agrees (λ text at. head_at text site at) (λ c n text. Declared c site.atoms n text) NoDigit
 head_agrees site =
     agrees_as to from
     (agrees_then (number_agrees largest)

@@ -20,7 +20,7 @@ use Rattle.text.specs.Turns.{turns, tries}
 use Rattle.grammar.proofs.Turning.{tries_first, tries_stay, onward_same, open_same}
 
 -- a number begins with a digit, which is no bracket
-pub starts_digit : (c : Care) (limit n : ℕ) (text rest : List ℕ) → Numeral c limit n text → is_byte 41 (slice_get (text ++ rest) 0) ≡ false
+starts_digit : (c : Care) (limit n : ℕ) (text rest : List ℕ) → Numeral c limit n text → is_byte 41 (slice_get (text ++ rest) 0) ≡ false
 starts_digit c limit n [] rest h = absurd (omega (arith, h.some))
 starts_digit c limit n (b ∷ text) rest h = ne_eqb b 41 (λ e. not_digit b e h.digits.0)
   where

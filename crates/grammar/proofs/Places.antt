@@ -17,7 +17,7 @@ drop_suc (x ∷ text) zero b e = grind arith
 drop_suc (x ∷ text) (suc at) b e = drop_suc text at b e
 
 -- a byte at a place, and what follows it
-pub drop_step : (text : List ℕ) (at b : ℕ) → slice_get text at ≡ Some b → drop at text ≡ b ∷ drop (at + 1) text
+drop_step : (text : List ℕ) (at b : ℕ) → slice_get text at ≡ Some b → drop at text ≡ b ∷ drop (at + 1) text
 drop_step text at b e = rw add-one (drop_suc text at b e)
 
 -- past a piece stands what follows it

@@ -8,7 +8,7 @@ use Rattle.text.specs.Words.{is_byte}
 
 module _ {X : Type 0} (f : X → Result X Fault) where
   -- a fault stays for all turns
-  pub tries_fault : (e : Fault) (n : ℕ) → turns (λ r. and_then r f) (Err e) n ≡ Err e
+  tries_fault : (e : Fault) (n : ℕ) → turns (λ r. and_then r f) (Err e) n ≡ Err e
   unfolding turns
   tries_fault e zero = refl
   tries_fault e (suc n) = ap (λ r. and_then r f) (tries_fault e n)

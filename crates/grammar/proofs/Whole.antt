@@ -170,7 +170,7 @@ module _ {S : Type 0} (kind : Notation S) (room : Counts) (forms : FormsAgree ki
       )
 
   -- a byte is refused whatever follows it
-  pub book_shared : (text other : List ℕ) (k : ℕ) → book text ≡ Err (Reading (Byte k)) → Same text other k → book other ≡ Err (Reading (Byte k))
+  book_shared : (text other : List ℕ) (k : ℕ) → book text ≡ Err (Reading (Byte k)) → Same text other k → book other ≡ Err (Reading (Byte k))
   book_shared text other k e same =
       let n = length text + length other + 1 in
       let shared = subst (λ r. Shared r (whole kind room n other 0) text other) (whole_fault text n (omega arith) (Reading (Byte k)) e) ((whole_agrees n).shared text other 0) in
