@@ -1,5 +1,5 @@
 -- The parts of the forms agree with their grammar.
-use Rattle.std.proofs.Common.{◌≡◌, ℕ, Bool, true, false, cond, eqb, leb, ◌⊎◌, List, [], ◌++◌, length, Ok, Err, Result, sym, refl, ap, ◌∙◌, subst, inl, inr}
+use Rattle.std.proofs.Common.{◌≡◌, ℕ, Bool, true, false, cond, eqb, leb, ◌⊎◌, List, [], ◌++◌, length, Ok, Err, Result, sym, refl, ap, subst, inl, inr, arith}
 use Rattle.std.proofs.lemmas.List.{append-nil}
 use Rattle.std.proofs.lemmas.Bool.{leb-false, lt-leb, eqb-true, eq-eqb}
 use Rattle.books.specs.Meaning.{Rule}
@@ -37,7 +37,7 @@ head_agrees site =
     to : (c : Care) (n : ℕ) (text : List ℕ) → Via (λ c v piece. Numeral c largest v piece) (Known site) c n text → Declared c site.atoms n text
     to c n text v =
         let f = v.parts in
-        let whole : text ≡ f.front = f.whole ∙ ap (λ t. f.front ++ t) f.second.1.1 ∙ append-nil f.front in
+        let whole : text ≡ f.front = grind (arith, f.whole, f.second.1.1, append-nil) in
         subst (λ k. Declared c site.atoms k text) (sym f.second.1.0)
         (record { spelt = subst (λ t. Numeral c largest v.value t) (sym whole) f.first; declared = kept_map c (leb-false site.atoms v.value) f.second.0 })
 

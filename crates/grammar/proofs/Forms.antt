@@ -1,5 +1,5 @@
 -- The forms agree with their grammar, each from the byte after its bracket on.
-use Rattle.std.proofs.Common.{◌≡◌, ℕ, ◌<◌, Bool, true, false, cond, leb, List, [], ◌∷◌, ◌++◌, Some, None, Ok, codes, Result, refl, ap, ◌∙◌}
+use Rattle.std.proofs.Common.{◌≡◌, ℕ, ◌<◌, Bool, true, false, cond, leb, List, [], ◌∷◌, ◌++◌, Some, None, Ok, codes, Result, refl, ap, ◌∙◌, arith}
 use Rattle.std.proofs.lemmas.Bool.{leb-false, lt-leb}
 use Rattle.books.specs.Meaning.{Atom, Rule}
 use Rattle.books.specs.declared.fault.ReadFault.TheVariants.{TooMany}
@@ -99,7 +99,7 @@ module _ (S : Type 0) (room : Counts) (atoms rules : ℕ) where
     where
       to : (c : Care) (y : Line S) (text : List ℕ) → Followed (Exactly end_word) (Followed (Exactly (10 ∷ [])) (λ p. (y ≡ end_line) × (p ≡ []))) text → EndRest c y text
       to c y text f =
-          (f.second.second.0, f.whole ∙ ap (λ t. t ++ f.back) f.first ∙ ap (λ t. end_word ++ t) (ended f.second))
+          (f.second.second.0, grind (arith, f.whole, f.first, ended f.second))
 
       from : (c : Care) (y : Line S) (text : List ℕ) → EndRest c y text → Followed (Exactly end_word) (Followed (Exactly (10 ∷ [])) (λ p. (y ≡ end_line) × (p ≡ []))) text
       from c y text (e, t) =

@@ -229,7 +229,7 @@ module _ {A : Type 0} (w : Walk A) where
       by_numbers : (ns : List ℕ) → Listed c w.limit ns text → Kept c (Passes s ns) → t ≡ adds s ns → Followed (Exactly (40 ∷ [])) (Open s c t) text
       by_numbers [] f k e =
           let g = f.second in
-          let close : f.back ≡ 41 ∷ [] = g.whole ∙ ap (λ p. p ++ g.back) g.first ∙ g.second in
+          let close : f.back ≡ 41 ∷ [] = grind (arith, g.whole, g.first, g.second) in
           onto f (inl (unended e close))
       by_numbers (n ∷ ns) f k e =
           onto f (inr (record { head = n; rest = ns; parts = f.second; passes = k; means = e }))

@@ -78,7 +78,7 @@ run_more text at k run (Some d) e =
       between = between_join text at run.next (run.next + 1) run.piece (b ∷ []) run.between (between_one text run.next b is);
       digits = digits_push 10 run.piece b run.digits small;
       most = omega arith;
-      found = ap (one_more text) run.found ∙ ap (grown (digits_value 10 run.piece, run.next)) e ∙ ap (λ (v : ℕ). (v, run.next + 1)) grows;
+      found = grind (arith, run.found, e, grows);
       ended = λ l. let z = run.ended (omega arith) in absurd (grind arith);
     }
 
@@ -186,7 +186,7 @@ number_run text at limit c n piece rest g stop e =
     let ds = run text at 10 in
     let ended : length ds.piece < length piece → NoDigit (drop ds.next text) = λ l. ap digit_of (sym (slice_get_front text ds.next)) ∙ ds.ended (omega arith) in
     let same = same_run ds.piece piece (drop ds.next text) rest ds.digits g.digits (sym ds.between.stands ∙ e) ended stop in
-    ds.found ∙ ap (λ (k : ℕ). (digits_value 10 ds.piece, k)) ds.between.place ∙ ap (λ (t : List ℕ). (digits_value 10 t, at + length t)) same ∙ ap (λ (v : ℕ). (v, at + length piece)) g.means
+    grind (arith, ds.found, ds.between.place, same, g.means)
 
 -- a number over the limit keeps the shape alone
 over_shape : (c : Care) (limit n : ℕ) → limit < n → Kept c (n ≤ limit) → ShapeOnly c
@@ -198,7 +198,7 @@ module _ (text : List ℕ) (at limit : ℕ) (c : Care) (n : ℕ) (piece rest : L
   reads_by : (r : Result (ℕ × ℕ) Fault) → Way text at limit (n, at + length piece) r → Reads c r n (at + length piece)
   reads_by r (none h) = absurd (omega arith)
   reads_by r (more d h) =
-      let after : digit_at text (at + length piece) ≡ None = ap digit_of (slice_get_front text (at + length piece) ∙ ap (λ t. slice_get t 0) (drop_past text at piece rest e)) ∙ stop in
+      let after : digit_at text (at + length piece) ≡ None = grind (arith, slice_get_front text (at + length piece), drop_past text at piece rest e, stop) in
       absurd (grind arith)
   reads_by r (over l) = inr (over_shape c limit n l g.within, (Reading (Number at), refl, tt))
   reads_by r (within h k l) = inl refl

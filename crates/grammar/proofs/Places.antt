@@ -28,7 +28,7 @@ drop_past text at piece rest e = sym (drop-drop (length piece) at text) ∙ ap (
 pub between_join : (text : List ℕ) (at mid next : ℕ) (p q : List ℕ) → Between text at mid p → Between text mid next q → Between text at next (p ++ q)
 between_join text at mid next p q a b =
     record {
-      stands = a.stands ∙ ap (λ t. p ++ t) b.stands ∙ sym (append_assoc p q (drop next text));
+      stands = grind (arith, a.stands, b.stands, append_assoc);
       place = omega (arith, a.place, b.place, length-append p q);
     }
 

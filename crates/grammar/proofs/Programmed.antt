@@ -114,7 +114,7 @@ module _ {S : Type 0} (n : Notation S) where
   order_front text (m, s) =
       let o = s.first in
       let p = o.second in
-      let line = p.whole ∙ ap (λ t. t ++ p.back) p.first ∙ ap (λ t. n.word ++ t) p.second in
+      let line = p.whole ∙ grind (arith, p.first, p.second) in
       (s.back, s.whole ∙ ap (λ t. t ++ s.back) (o.whole ∙ ap (λ t. t ++ o.back) o.first ∙ ap (λ t. codes "(order " ++ t) line))
 
   -- the text of the book that has nothing

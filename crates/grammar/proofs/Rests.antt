@@ -58,7 +58,7 @@ module _ {S : Type 0} (kind : Notation S) (room : Counts) where
       regroup (followed_map (λ t f. f.1) (rules_spelt os a (r + 1) c) h)
 
   rules_rest : (os : List (Option Rule)) (a r : ℕ) (c : Care) (piece : List ℕ) → Kept c (r + length os ≤ room.rules) → Followed (RuleForms c a r os) (Exactly end_text) piece → RulesRest a r c os piece
-  rules_rest [] a r c piece k h = h.whole ∙ ap (λ t. t ++ h.back) h.first ∙ h.second
+  rules_rest [] a r c piece k h = grind (arith, h.whole, h.first, h.second)
   rules_rest (o ∷ os) a r c piece k h =
       followed_map
       (λ t f. (kept_map c (λ (l : r + length (o ∷ os) ≤ room.rules). omega arith) k, f))

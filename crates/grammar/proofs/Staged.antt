@@ -1,5 +1,5 @@
 -- The form at which a reader stands agrees with the forms that are allowed there.
-use Rattle.std.proofs.Common.{◌≡◌, ℕ, cond, ◌⊎◌, List, [], ◌∷◌, ◌++◌, Some, None, codes, Result, sym, refl, ap, ◌∙◌, subst, inl, inr}
+use Rattle.std.proofs.Common.{◌≡◌, ℕ, cond, ◌⊎◌, List, [], ◌∷◌, ◌++◌, Some, None, codes, Result, sym, refl, ap, subst, inl, inr, arith}
 use Rattle.std.specs.List.{slice_get}
 use Rattle.books.specs.Meaning.{Rule}
 use Rattle.books.specs.declared.fault.Fault.{Fault}
@@ -97,7 +97,7 @@ module _ {S : Type 0} (kind : Notation S) (room : Counts) (stamps : Agrees kind.
       let (e, k, h) = g.second in
       subst (λ x. LateForm kind room atoms rules c x text) (sym e) (k, opened void_word f (onto g h))
   late_to c y text f (inr (inr g)) =
-      let whole : text ≡ end_text = f.whole ∙ ap (λ t. t ++ f.back) f.first ∙ ap (λ t. 40 ∷ t) g.1 in
+      let whole : text ≡ end_text = grind (arith, f.whole, f.first, g.1) in
       subst (λ x. LateForm kind room atoms rules c x text) (sym g.0) whole
 
   late_from : (c : Care) (y : Line S) (text : List ℕ) → LateForm kind room atoms rules c y text → Followed (Exactly (40 ∷ [])) (Late c y) text

@@ -137,7 +137,7 @@ module _ {S : Type 0} (kind : Notation S) (room : Counts) (text : List ℕ) wher
   -- past the end form: the book where no byte is left, and the next byte refused where one is
   past_end : (n at a r : ℕ) (xs : List (Atom S)) (os : List (Option Rule)) → at ≤ length text → length text ≤ n + at → and_then (tries form (progress End at a r xs os) n) finish ≡ closed xs os bare at (slice_get text at)
   past_end zero at a r xs os l k =
-      ap (λ t. and_then t finish) (tries_none form (progress End at a r xs os)) ∙ sym (ap (closed xs os bare at) (slice_get_past text at (omega arith)) ∙ closed_bare xs os at)
+      rw (tries_none form (progress End at a r xs os), slice_get_past text at (omega arith)) (sym (closed_bare xs os at))
   past_end (suc n) at a r xs os l k =
       let s = progress End at a r xs os in
       elim (cases_lt at (length text)) [

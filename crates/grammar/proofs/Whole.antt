@@ -54,7 +54,7 @@ module _ {S : Type 0} where
 
   at_end_reads : (m k : Meaning S) (c : Care) (piece rest text : List ℕ) (at : ℕ) → Ended m c k piece → rest ≡ [] → drop at text ≡ piece ++ rest → Reads c (at_end m at (slice_get text at)) k (at + length piece)
   at_end_reads m k c piece rest text at h s d =
-      let none : drop at text ≡ [] = d ∙ ap (λ t. t ++ rest) h.1 ∙ s in
+      let none : drop at text ≡ [] = grind (arith, d, h.1, s) in
       let place : at ≡ at + length piece = omega (arith, ap length h.1) in
       inl (ap (at_end m at) (slice_get_front text at ∙ ap (λ t. slice_get t 0) none) ∙ ap (λ y. Ok (y, at)) (sym h.0) ∙ ap (λ n. Ok (k, n)) place)
 
@@ -93,7 +93,7 @@ module _ {S : Type 0} where
   booked_seen : (G : Care → Meaning S → List ℕ → Type 0) (text : List ℕ) (m : Meaning S) (r : Result (Meaning S × ℕ) Fault) → booked r ≡ Ok m → Ends text r → Seen G r text 0 → G kept m text
   booked_seen G text m (Ok p) e n (piece, b, g) =
       let none : drop p.1 text ≡ [] = front_none (drop p.1 text) (sym (slice_get_front text p.1) ∙ n) in
-      let all : piece ≡ text = sym (b.stands ∙ ap (λ t. piece ++ t) none ∙ append-nil piece) in
+      let all : piece ≡ text = grind (arith, b.stands, none, append-nil) in
       let same : p.0 ≡ m = cc in
       subst (λ k. G kept k text) same (subst (G kept p.0) all g)
   booked_seen G text m (Err d) e n h = absurd (grind arith)
