@@ -44,11 +44,7 @@ word_refused {X} (b ∷ word) text at K h = word_first b word text at K ∙ part
 agrees_past : (word text : List ℕ) (at : ℕ) → at ≤ agrees_to word text at
 unfolding agrees_to
 agrees_past [] text at = omega arith
-agrees_past (b ∷ word) text at = by_test (is_byte b (slice_get text at)) (agrees_to word text (at + 1)) (agrees_past word text (at + 1))
-  where
-    by_test : (t : Bool) (j : ℕ) → at + 1 ≤ j → at ≤ cond t j at
-    by_test true j l = omega arith
-    by_test false j l = omega arith
+agrees_past (b ∷ word) text at = grind (arith, agrees_past word text (at + 1))
 
 -- the byte after a bracket tells at most one form
 data Told : Bool → Bool → Bool → Bool → Bool → Type 0 where

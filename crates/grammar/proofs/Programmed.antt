@@ -41,11 +41,7 @@ agreed_step b word text at = rw add-one (by_suc text at)
 agrees_to_lem : (word text : List ℕ) (at : ℕ) → agrees_to word text at ≡ at + agreed word (drop at text)
 unfolding agrees_to
 agrees_to_lem [] text at = omega arith
-agrees_to_lem (b ∷ word) text at = by_test (is_byte b (slice_get text at)) (agrees_to word text (at + 1)) (agreed word (drop (at + 1) text)) (agrees_to_lem word text (at + 1)) ∙ ap (λ n. at + n) (sym (agreed_step b word text at))
-  where
-    by_test : (t : Bool) (j x : ℕ) → j ≡ at + 1 + x → cond t j at ≡ at + cond t (suc x) 0
-    by_test true j x e = omega (arith, e)
-    by_test false j x e = omega arith
+agrees_to_lem (b ∷ word) text at = rw (agreed_step b word text at) (grind (arith, agrees_to_lem word text (at + 1)))
 
 -- the place up to which a text agrees with a word is the count of the bytes that agree
 agrees_from_start : (word text : List ℕ) → agrees_to word text 0 ≡ agreed word text
@@ -58,11 +54,7 @@ agrees_from_start word text = omega (arith, agrees_to_lem word text 0, ap (agree
 agreed_within : (word text : List ℕ) → agreed word text ≤ length text
 agreed_within [] text = omega arith
 agreed_within (b ∷ word) [] = omega arith
-agreed_within (b ∷ word) (c ∷ text) = by_test (eqb c b) (agreed word text) (length text) (agreed_within word text)
-  where
-    by_test : (t : Bool) (x n : ℕ) → x ≤ n → cond t (suc x) 0 ≤ suc n
-    by_test true x n l = omega arith
-    by_test false x n l = omega arith
+agreed_within (b ∷ word) (c ∷ text) = grind (arith, agreed_within word text)
 
 -- what agrees with a word goes on as the word does
 agreed_front : (word text tail : List ℕ) → take (agreed word text) text ++ (drop (agreed word text) word ++ tail) ≡ word ++ tail
