@@ -70,14 +70,10 @@ pub agrees_choice : {X : Type 0} (byte : ℕ) {P Q : List ℕ → ℕ → Result
     → Agrees (λ text at. cond (is_byte byte (slice_get text at)) (P text at) (Q text at)) (λ c x piece. G c x piece ⊎ H c x piece) Stop
 agrees_choice byte {P} {Q} {G} {H} {Stop} = choice byte P Q G H Stop
 
-flip : {X : Type 0} (b : Bool) (x y : X) → cond (not b) x y ≡ cond b y x
-flip true x y = refl
-flip false x y = refl
-
 -- a fault that is no byte's, where a test finds one
 pub agrees_unless : {X : Type 0} (e : Fault) → AtByte e (λ _. ⊥) → {P : List ℕ → ℕ → Result (X × ℕ) Fault} {G : Care → X → List ℕ → Type 0} {Stop : List ℕ → Type 0} → Agrees P G Stop → (b : Bool) → Agrees (λ text at. cond b (Err e) (P text at)) (λ c x piece. Kept c (b ≡ false) × G c x piece) Stop
 agrees_unless e n {P} a b =
-    agrees_same (λ text at. flip b (P text at) (Err e))
+    agrees_same (λ text at. grind arith)
     (agrees_as
     (λ c x piece h. (kept_map c (not-true b) h.0, h.1))
     (λ c x piece h. (kept_map c (ap not) h.0, h.1))

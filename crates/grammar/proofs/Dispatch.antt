@@ -15,31 +15,19 @@ use Rattle.text.specs.declared.reader.Stage.TheVariants.{Start, Atoms, Rules}
 use Rattle.text.specs.declared.counts.Counts.{Counts}
 use Rattle.grammar.specs.Notations.{Notation}
 
-pass_by : {X : Type 0} (t : Bool) (at m : ℕ) (K : ℕ → Result X Fault) → and_then (cond t (Ok m) (wrong_at at)) K ≡ cond t (K m) (wrong_at at)
-pass_by true at m K = refl
-pass_by false at m K = refl
-
 byte_first : {X : Type 0} (b : ℕ) (text : List ℕ) (at : ℕ) (K : ℕ → Result X Fault) → and_then (pass_at b text at) K ≡ cond (is_byte b (slice_get text at)) (K (at + 1)) (wrong_at at)
-byte_first b text at K = ap (λ r. and_then r K) (pass_if_lem b at (slice_get text at)) ∙ pass_by (is_byte b (slice_get text at)) at (at + 1) K
-
-word_by : {X : Type 0} (t : Bool) (at m : ℕ) (P : ℕ → Result ℕ Fault) (K : ℕ → Result X Fault) → and_then (cond t (P m) (wrong_at at)) K ≡ cond t (and_then (P m) K) (wrong_at at)
-word_by true at m P K = refl
-word_by false at m P K = refl
+byte_first b text at K = grind (arith, pass_if_lem b at (slice_get text at))
 
 -- a word is passed by its first byte, and then the rest
 word_first : {X : Type 0} (b : ℕ) (word text : List ℕ) (at : ℕ) (K : ℕ → Result X Fault) → and_then (pass_word (b ∷ word) text at) K ≡ cond (is_byte b (slice_get text at)) (and_then (pass_word word text (at + 1)) K) (wrong_at at)
 unfolding pass_word
-word_first b word text at K = ap (λ r. and_then r K) (byte_first b text at (pass_word word text)) ∙ word_by (is_byte b (slice_get text at)) at (at + 1) (pass_word word text) K
+word_first b word text at K = grind (arith, byte_first b text at (pass_word word text))
 
 -- a word with which the text does not begin is refused where they part
 word_refused : {X : Type 0} (word text : List ℕ) (at : ℕ) (K : ℕ → Result X Fault) → begins word (drop at text) ≡ false → and_then (pass_word word text at) K ≡ wrong_at (agrees_to word text at)
 unfolding agrees_to
 word_refused [] text at K h = absurd (grind arith)
-word_refused {X} (b ∷ word) text at K h = word_first b word text at K ∙ parts (is_byte b (slice_get text at)) (begins word (drop (at + 1) text)) (and_then (pass_word word text (at + 1)) K) (agrees_to word text (at + 1)) (word_refused word text (at + 1) K) (sym (begins_step b word text at) ∙ h)
-  where
-    parts : (t u : Bool) (r : Result X Fault) (j : ℕ) → (u ≡ false → r ≡ wrong_at j) → (t && u) ≡ false → cond t r (wrong_at at) ≡ wrong_at (cond t j at)
-    parts true u r j f e = f e
-    parts false u r j f e = refl
+word_refused (b ∷ word) text at K h = rw (word_first b word text at K) (grind (arith, word_refused word text (at + 1) K, begins_step b word text at, h))
 
 agrees_past : (word text : List ℕ) (at : ℕ) → at ≤ agrees_to word text at
 unfolding agrees_to

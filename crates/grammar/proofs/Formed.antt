@@ -63,11 +63,7 @@ module _ {Y : Type 0} (expected : ℕ) {K : List ℕ → ℕ → Result (Y × �
       record { value = f.first.number; parts = record { front = f.front; back = f.back; whole = f.whole; first = f.first.spelt; second = (kept_map c (eq-eqb f.first.number expected) f.first.next, f.second) } }
 
   next_same : (text : List ℕ) (at : ℕ) (r : Result (ℕ × ℕ) Fault) → and_then r (λ p. cond (eqb p.0 expected) (K text p.1) (Err (Reading (Number at)))) ≡ and_then (and_then r (λ p. cond (eqb p.0 expected) (Ok p.1) (Err (Reading (Number at))))) (K text)
-  next_same text at (Ok p) = by_test (eqb p.0 expected)
-    where
-      by_test : (b : Bool) → cond b (K text p.1) (Err (Reading (Number at))) ≡ and_then (cond b (Ok p.1) (Err (Reading (Number at)))) (K text)
-      by_test true = refl
-      by_test false = refl
+  next_same text at (Ok p) = grind arith
   next_same text at (Err e) = refl
 
   -- a reader after a line's number agrees with its pieces after that number

@@ -5,9 +5,8 @@ use Rattle.std.specs.List.{slice_get}
 use Rattle.books.specs.Check.{book_fault, unless}
 use Rattle.books.specs.Meaning.{Meaning}
 use Rattle.books.specs.declared.fault.CheckFault.{CheckFault}
-use Rattle.books.specs.declared.fault.MakeFault.TheVariants.{SheetTooShort}
 use Rattle.books.specs.declared.fault.Fault.{Fault}
-use Rattle.books.specs.declared.fault.Fault.TheVariants.{Reading, Making}
+use Rattle.books.specs.declared.fault.Fault.TheVariants.{Reading}
 use Rattle.books.specs.declared.fault.ReadFault.TheVariants.{Byte, TooMany}
 use Rattle.text.specs.Bytes.{and_then, wrong_at}
 use Rattle.text.specs.Kinds.{begins}
@@ -22,6 +21,7 @@ use Rattle.grammar.specs.Programs.{RefusedByAll, ProgramRefusesThere}
 use Rattle.grammar.specs.Theorems.{read_as, written_of, Shaped, RefusedThere}
 use Rattle.grammar.proofs.Laws.{lawful_ticks, lawful_routes, lawful_pairs, refused_at_the_first_byte_lem}
 use Rattle.stamps.specs.Orders.{Tests}
+use Rattle.std.proofs.lemmas.Bool.Decides.{nat_tests}
 
 -- how many bytes of a word a text begins with
 abbrev agreed : List ℕ → List ℕ → ℕ
@@ -61,11 +61,7 @@ agreed_front : (word text tail : List ℕ) → take (agreed word text) text ++ (
 agreed_front [] [] tail = refl
 agreed_front [] (c ∷ text) tail = refl
 agreed_front (b ∷ word) [] tail = refl
-agreed_front (b ∷ word) (c ∷ text) tail = by_test (eqb c b) refl (agreed word text) (agreed_front word text tail)
-  where
-    by_test : (t : Bool) → eqb c b ≡ t → (x : ℕ) → take x text ++ (drop x word ++ tail) ≡ word ++ tail → take (cond t (suc x) 0) (c ∷ text) ++ (drop (cond t (suc x) 0) (b ∷ word) ++ tail) ≡ b ∷ (word ++ tail)
-    by_test true e x h = ap (λ y. y ∷ (take x text ++ (drop x word ++ tail))) (eqb-true c b e) ∙ ap (λ t. b ∷ t) h
-    by_test false e x h = refl
+agreed_front (b ∷ word) (c ∷ text) tail = grind (arith, nat_tests, agreed_front word text tail)
 
 -- a text whose front up to k and at it goes on as one with the word agrees with the word past k, or begins with all of it
 meets : (word rest text more : List ℕ) (k : ℕ) → k < length text → take (suc k) text ++ more ≡ word ++ rest → (k < agreed word text) ⊎ (begins word text ≡ true)
@@ -246,11 +242,7 @@ order_place text = omega (arith, agrees_from_start tick_order text, agrees_from_
 no_byte : {X : Type 0} (fault gap : Option CheckFault) (needed room : ℕ) (x : X) (k : ℕ) → and_then (unless fault) (λ _. and_then (write_answer gap needed room) (λ _. Ok x)) ≡ Err (Reading (Byte k)) → ⊥
 no_byte (Some f) gap needed room x k e = grind arith
 no_byte None (Some f) needed room x k e = grind arith
-no_byte {X} None None needed room x k e = by_room (ltb room needed) e
-  where
-    by_room : (t : Bool) → and_then (cond t (Err (Making (SheetTooShort needed))) (Ok needed)) (λ _. Ok x) ≡ Err (Reading (Byte k)) → ⊥
-    by_room true e = grind arith
-    by_room false e = grind arith
+no_byte None None needed room x k e = grind arith
 
 -- so a byte that is refused on the way to the canonical text is refused by the reader
 read_refused : {S : Type 0} (n : Notation S) (tests : Tests S) (text : List ℕ) (atoms rules room k : ℕ) → canonical_at n.stamp_at n.word n.spelt tests text atoms rules room ≡ Err (Reading (Byte k)) → read_as n text atoms rules ≡ Err (Reading (Byte k))
@@ -281,5 +273,4 @@ program_refuses_there_lem text tick_rows route_rows pair_rows rules room k e =
     (short (ltb 65536 (length text)) _ e)
   where
     short : (t : Bool) (r : Result (List ℕ) Fault) → cond t (Err (Reading (TooMany 0))) r ≡ Err (Reading (Byte k)) → r ≡ Err (Reading (Byte k))
-    short true r h = absurd (grind arith)
-    short false r h = h
+    short t r h = grind arith
