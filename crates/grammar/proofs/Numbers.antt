@@ -3,7 +3,7 @@ use Rattle.std.proofs.Common.{◌≡◌, ℕ, zero, suc, ◌+◌, ◌-◌, ◌*�
 use Rattle.std.proofs.lemmas.Int.Digits.{digits_value_push, digits_push}
 use Rattle.std.proofs.lemmas.List.{append-nil, length_push}
 use Rattle.std.proofs.lemmas.Str.Parse.{digit_from_value, numerals_by_value, tells_digits, digits_value_short}
-use Rattle.std.proofs.lemmas.Bool.{le-ltb, eqb-true, eqb-false, ltb-true, ltb-false, leb-true, and_parts, cases_Bool, cases_lt}
+use Rattle.std.proofs.lemmas.Bool.{eqb-true, eqb-false, ltb-true, ltb-false, leb-true, and_parts, cases_Bool, cases_lt}
 use Rattle.std.specs.List.{slice_get}
 use Rattle.std.specs.Str.Parse.{AllDigits, digits_value}
 use Rattle.std.specs.Char.{digit_value}
@@ -224,12 +224,6 @@ number_agrees limit =
 abbrev pub unlimited : ℕ
 unlimited = 9999999999
 
-limited_by : (at limit : ℕ) (p : ℕ × ℕ) (empty longer : Result (ℕ × ℕ) Fault) (a b : Bool) → and_then empty (λ q. cond (ltb limit q.0) (Err (Reading (Number at))) (Ok q)) ≡ empty → and_then longer (λ q. cond (ltb limit q.0) (Err (Reading (Number at))) (Ok q)) ≡ longer → ltb unlimited p.0 ≡ false
-    → cond a empty (cond b longer (cond (ltb limit p.0) (Err (Reading (Number at))) (Ok p))) ≡ and_then (cond a empty (cond b longer (cond (ltb unlimited p.0) (Err (Reading (Number at))) (Ok p)))) (λ q. cond (ltb limit q.0) (Err (Reading (Number at))) (Ok q))
-limited_by at limit p empty longer true b n m e = sym n
-limited_by at limit p empty longer false true n m e = sym m
-limited_by at limit p empty longer false false n m e = ap (λ t. and_then (cond t (Err (Reading (Number at))) (Ok p)) (λ q. cond (ltb limit q.0) (Err (Reading (Number at))) (Ok q))) (sym e)
-
 -- a limit is a test of what is read without it
 pub number_limited : (text : List ℕ) (at limit : ℕ) → number_at text at limit ≡ and_then (number_at text at unlimited) (λ q. cond (ltb limit q.0) (Err (Reading (Number at))) (Ok q))
 unfolding number_at
@@ -239,4 +233,4 @@ number_limited text at limit =
     let small : digits_value 10 r.piece < 10 ^ 10 = digits_value_short (numerals_by_value (AllDigits 10) tells_digits) r.piece 10 r.digits r.most in
     let same : p.0 ≡ digits_value 10 r.piece = ap (λ (q : ℕ × ℕ). q.0) r.found in
     let low : p.0 ≤ unlimited = omega (arith, small, same) in
-    limited_by at limit p (wrong_at at) (wrong_at p.1) (eqb p.1 at) (is_some (digit_at text p.1)) refl refl (le-ltb unlimited p.0 low)
+    grind (arith, nat_tests, low)
