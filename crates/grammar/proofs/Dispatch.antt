@@ -1,5 +1,5 @@
 -- The form at a place, chosen byte by byte.
-use Rattle.std.proofs.Common.{◌≡◌, ℕ, ◌+◌, ◌≤◌, max, Bool, true, false, cond, ◌&&◌, eqb, List, [], ◌∷◌, drop, Some, None, Ok, codes, Option, Result, sym, refl, ap, ◌∙◌, subst, inl, inr, arith}
+use Rattle.std.proofs.Common.{◌≡◌, ℕ, ◌+◌, ◌≤◌, max, Bool, true, false, cond, ◌&&◌, eqb, List, [], ◌∷◌, drop, Some, None, Ok, codes, Option, Result, sym, ap, ◌∙◌, subst, inl, inr, arith}
 use Rattle.std.proofs.lemmas.Bool.{cases_eq, ne_eqb}
 use Rattle.std.specs.List.{slice_get}
 use Rattle.books.specs.declared.fault.Fault.{Fault}
@@ -80,12 +80,7 @@ kind_same o a r v e o' a' r' v' e' p q s t u = rw (p, q, s, t, u)
 
 -- where only one form is allowed, its reader refuses what does not begin it
 one_by : {X : Type 0} (O N : X) (o a r v e : Bool) → (o ≡ false → O ≡ N) → O ≡ by_kind (kind_by o a r v e) O N N N N N
-one_by O N true a r v e h = refl
-one_by O N false true r v e h = h refl
-one_by O N false false true v e h = h refl
-one_by O N false false false true e h = h refl
-one_by O N false false false false true h = h refl
-one_by O N false false false false false h = h refl
+one_by O N o a r v e h = grind (arith, h)
 
 -- how a form is read from the byte that tells it: whether that byte stands there, whether the rest begins so, the place up to which it agrees
 record Way {X : Type 0} (m : ℕ) (here begun : Bool) (reach : ℕ) (answer : Result X Fault) : Type 0 where
@@ -103,10 +98,6 @@ way b word text m K =
       refused = λ h. word_refused (b ∷ word) text m K (begins_step b word text m ∙ h);
     }
 
--- a refusal at the same place
-at_place : {X : Type 0} (r : Result X Fault) (j k : ℕ) → r ≡ wrong_at j → j ≡ k → r ≡ wrong_at k
-at_place r j k h e = h ∙ ap wrong_at e
-
 -- the choice by the byte that tells the form is the choice by its kind
 module _ {X : Type 0} (m jr jv je : ℕ) (R V E : Result X Fault) where
   -- the place up to which the text agrees with a form of a rule
@@ -119,17 +110,12 @@ module _ {X : Type 0} (m jr jv je : ℕ) (R V E : Result X Fault) where
       cond r R (cond v V E) ≡ by_kind (kind_by (o && bo) (a && ba) (r && br) (v && bv) (e && be)) N N R V E N
 
   late_by : {o a r v e : Bool} → Told o a r v e → (bo ba br bv be : Bool) → Way m r br jr R → Way m v bv jv V → Way m e be je E → LateBy o a r v e bo ba br bv be
-  late_by by_order true ba br bv be x y z = at_place E m _ (z.refused refl) (omega arith)
-  late_by by_order false ba br bv be x y z = at_place E m _ (z.refused refl) (omega arith)
-  late_by by_atom bo true br bv be x y z = at_place E m _ (z.refused refl) (omega arith)
-  late_by by_atom bo false br bv be x y z = at_place E m _ (z.refused refl) (omega arith)
-  late_by by_rule bo ba true bv be x y z = refl
-  late_by by_rule bo ba false bv be x y z = at_place R jr _ (x.refused refl) (omega (arith, x.past))
-  late_by by_void bo ba br true be x y z = refl
-  late_by by_void bo ba br false be x y z = at_place V jv _ (y.refused refl) (omega (arith, y.past))
-  late_by by_end bo ba br bv true x y z = refl
-  late_by by_end bo ba br bv false x y z = at_place E je _ (z.refused refl) (omega (arith, z.past))
-  late_by by_none bo ba br bv be x y z = at_place E m _ (z.refused refl) (omega arith)
+  late_by by_order bo ba br bv be x y z = grind (arith, x.refused, y.refused, z.refused, x.past, y.past, z.past)
+  late_by by_atom bo ba br bv be x y z = grind (arith, x.refused, y.refused, z.refused, x.past, y.past, z.past)
+  late_by by_rule bo ba br bv be x y z = grind (arith, x.refused, y.refused, z.refused, x.past, y.past, z.past)
+  late_by by_void bo ba br bv be x y z = grind (arith, x.refused, y.refused, z.refused, x.past, y.past, z.past)
+  late_by by_end bo ba br bv be x y z = grind (arith, x.refused, y.refused, z.refused, x.past, y.past, z.past)
+  late_by by_none bo ba br bv be x y z = grind (arith, x.refused, y.refused, z.refused, x.past, y.past, z.past)
 
   module _ (ja : ℕ) (A : Result X Fault) where
     abbrev EarlyBy : Bool → Bool → Bool → Bool → Bool → Bool → Bool → Bool → Bool → Bool → Type 0
@@ -138,17 +124,12 @@ module _ {X : Type 0} (m jr jv je : ℕ) (R V E : Result X Fault) where
         cond a A (cond r R (cond v V E)) ≡ by_kind (kind_by (o && bo) (a && ba) (r && br) (v && bv) (e && be)) N A R V E N
 
     early_by : {o a r v e : Bool} → Told o a r v e → (bo ba br bv be : Bool) → Way m a ba ja A → Way m r br jr R → Way m v bv jv V → Way m e be je E → EarlyBy o a r v e bo ba br bv be
-    early_by by_order true ba br bv be w x y z = at_place E m _ (z.refused refl) (omega arith)
-    early_by by_order false ba br bv be w x y z = at_place E m _ (z.refused refl) (omega arith)
-    early_by by_atom bo true br bv be w x y z = refl
-    early_by by_atom bo false br bv be w x y z = at_place A ja _ (w.refused refl) (omega (arith, w.past))
-    early_by by_rule bo ba true bv be w x y z = refl
-    early_by by_rule bo ba false bv be w x y z = at_place R jr _ (x.refused refl) (omega (arith, x.past))
-    early_by by_void bo ba br true be w x y z = refl
-    early_by by_void bo ba br false be w x y z = at_place V jv _ (y.refused refl) (omega (arith, y.past))
-    early_by by_end bo ba br bv true w x y z = refl
-    early_by by_end bo ba br bv false w x y z = at_place E je _ (z.refused refl) (omega (arith, z.past))
-    early_by by_none bo ba br bv be w x y z = at_place E m _ (z.refused refl) (omega arith)
+    early_by by_order bo ba br bv be w x y z = grind (arith, w.refused, x.refused, y.refused, z.refused, w.past, x.past, y.past, z.past)
+    early_by by_atom bo ba br bv be w x y z = grind (arith, w.refused, x.refused, y.refused, z.refused, w.past, x.past, y.past, z.past)
+    early_by by_rule bo ba br bv be w x y z = grind (arith, w.refused, x.refused, y.refused, z.refused, w.past, x.past, y.past, z.past)
+    early_by by_void bo ba br bv be w x y z = grind (arith, w.refused, x.refused, y.refused, z.refused, w.past, x.past, y.past, z.past)
+    early_by by_end bo ba br bv be w x y z = grind (arith, w.refused, x.refused, y.refused, z.refused, w.past, x.past, y.past, z.past)
+    early_by by_none bo ba br bv be w x y z = grind (arith, w.refused, x.refused, y.refused, z.refused, w.past, x.past, y.past, z.past)
 
 -- a choice after the bracket, or no bracket
 module _ {X : Type 0} (at : ℕ) where
@@ -156,16 +137,13 @@ module _ {X : Type 0} (at : ℕ) where
   if_open t r = cond t r (wrong_at at)
 
   opened : (t o a r v e : Bool) (L N A R V E : Result X Fault) → L ≡ by_kind (kind_by o a r v e) N A R V E N → if_open t L ≡ by_kind (kind_by (t && o) (t && a) (t && r) (t && v) (t && e)) (if_open t N) (if_open t A) (if_open t R) (if_open t V) (if_open t E) (if_open t N)
-  opened true o a r v e L N A R V E h = h
-  opened false o a r v e L N A R V E h = refl
+  opened t o a r v e L N A R V E h = grind (arith, h)
 
   late_place : (t : Bool) (r v e : ℕ) → if_open t (wrong_at (max r (max v e))) ≡ wrong_at (max (cond t r at) (max (cond t v at) (cond t e at)))
-  late_place true r v e = refl
-  late_place false r v e = ap wrong_at (omega arith)
+  late_place t r v e = grind arith
 
   early_place : (t : Bool) (a r v e : ℕ) → if_open t (wrong_at (max a (max r (max v e)))) ≡ wrong_at (max (cond t a at) (max (cond t r at) (max (cond t v at) (cond t e at))))
-  early_place true a r v e = refl
-  early_place false a r v e = ap wrong_at (omega arith)
+  early_place t a r v e = grind arith
 
 table_same : {X : Type 0} (k k' : Option Kind) (N N' A A' R R' V V' E E' : X) → k ≡ k' → N ≡ N' → A ≡ A' → R ≡ R' → V ≡ V' → E ≡ E' → by_kind k N A R V E N ≡ by_kind k' N' A' R' V' E' N'
 table_same k k' N N' A A' R R' V V' E E' p q s t u w = cc
