@@ -13,8 +13,8 @@ pub onto : {A B C : List ℕ → Type 0} {text : List ℕ} (f : Followed A B tex
 onto f second = record { front = f.front; back = f.back; whole = f.whole; first = f.first; second = second }
 
 -- where each of two pieces has one text, so have they together
-pub followed_unique : {A B : List ℕ → Type 0} (front back text : List ℕ) → ((t : List ℕ) → A t → t ≡ front) → ((t : List ℕ) → B t → t ≡ back) → Followed A B text → text ≡ front ++ back
-followed_unique front back text a b h =
+pub followed_unique : {A B : List ℕ → Type 0} {front back text : List ℕ} → ((t : List ℕ) → A t → t ≡ front) → ((t : List ℕ) → B t → t ≡ back) → Followed A B text → text ≡ front ++ back
+followed_unique a b h =
     grind (arith, h.whole, a h.front h.first, b h.back h.second)
 
 -- each piece changed
