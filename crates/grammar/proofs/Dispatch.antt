@@ -1,6 +1,5 @@
 -- The form at a place, chosen byte by byte.
-use Rattle.std.proofs.Common.{◌≡◌, ℕ, ◌+◌, ◌≤◌, max, Bool, true, false, cond, ◌&&◌, eqb, List, [], ◌∷◌, drop, Some, None, Ok, codes, Option, Result, sym, ap, ◌∙◌, subst, inl, inr, arith}
-use Rattle.std.proofs.lemmas.Bool.{cases_eq, ne_eqb}
+use Rattle.std.proofs.Common.{◌≡◌, ℕ, ◌+◌, ◌≤◌, max, Bool, false, cond, ◌&&◌, List, [], ◌∷◌, drop, Some, None, Ok, codes, Option, Result, sym, ap, ◌∙◌, arith}
 use Rattle.std.specs.List.{slice_get}
 use Rattle.books.specs.declared.fault.Fault.{Fault}
 use Rattle.text.specs.Bytes.{and_then, wrong_at, pass_at}
@@ -14,6 +13,7 @@ use Rattle.text.specs.declared.kind.Kind.TheVariants as kinds
 use Rattle.text.specs.declared.reader.Stage.TheVariants.{Start, Atoms, Rules}
 use Rattle.text.specs.declared.counts.Counts.{Counts}
 use Rattle.grammar.specs.Notations.{Notation}
+use Rattle.std.proofs.lemmas.Bool.Decides.{nat_tests}
 
 byte_first : {X : Type 0} (b : ℕ) (text : List ℕ) (at : ℕ) (K : ℕ → Result X Fault) → and_then (pass_at b text at) K ≡ cond (is_byte b (slice_get text at)) (K (at + 1)) (wrong_at at)
 byte_first b text at K = grind (arith, pass_if_lem b at (slice_get text at))
@@ -33,43 +33,6 @@ agrees_past : (word text : List ℕ) (at : ℕ) → at ≤ agrees_to word text a
 unfolding agrees_to
 agrees_past [] text at = omega arith
 agrees_past (b ∷ word) text at = grind (arith, agrees_past word text (at + 1))
-
--- the byte after a bracket tells at most one form
-data Told : Bool → Bool → Bool → Bool → Bool → Type 0 where
-  by_order : Told true false false false false
-  by_atom : Told false true false false false
-  by_rule : Told false false true false false
-  by_void : Told false false false true false
-  by_end : Told false false false false true
-  by_none : Told false false false false false
-
-abbrev TellsBy : ℕ → Type 0
-TellsBy b = Told (eqb b 111) (eqb b 97) (eqb b 114) (eqb b 118) (eqb b 101)
-
-told : (o : Option ℕ) → Told (is_byte 111 o) (is_byte 97 o) (is_byte 114 o) (is_byte 118 o) (is_byte 101 o)
-told None = by_none
-told (Some b) =
-    elim (cases_eq b 111) [
-      | inl e ↦ subst TellsBy (sym e) by_order
-      | inr o ↦
-          elim (cases_eq b 97) [
-            | inl e ↦ subst TellsBy (sym e) by_atom
-            | inr a ↦
-                elim (cases_eq b 114) [
-                  | inl e ↦ subst TellsBy (sym e) by_rule
-                  | inr r ↦
-                      elim (cases_eq b 118) [
-                        | inl e ↦ subst TellsBy (sym e) by_void
-                        | inr v ↦
-                            elim (cases_eq b 101) [
-                              | inl e ↦ subst TellsBy (sym e) by_end
-                              | inr n ↦
-                                  rw (ne_eqb b 111 o, ne_eqb b 97 a, ne_eqb b 114 r, ne_eqb b 118 v, ne_eqb b 101 n) by_none
-                            ]
-                      ]
-                ]
-          ]
-    ]
 
 -- the kind, by whether the text begins with each opening
 abbrev kind_by : Bool → Bool → Bool → Bool → Bool → Option Kind
@@ -109,13 +72,10 @@ module _ {X : Type 0} (m jr jv je : ℕ) (R V E : Result X Fault) where
       let N = wrong_at (late_reach r v e) in
       cond r R (cond v V E) ≡ by_kind (kind_by (o && bo) (a && ba) (r && br) (v && bv) (e && be)) N N R V E N
 
-  late_by : {o a r v e : Bool} → Told o a r v e → (bo ba br bv be : Bool) → Way m r br jr R → Way m v bv jv V → Way m e be je E → LateBy o a r v e bo ba br bv be
-  late_by by_order bo ba br bv be x y z = grind (arith, x.refused, y.refused, z.refused, x.past, y.past, z.past)
-  late_by by_atom bo ba br bv be x y z = grind (arith, x.refused, y.refused, z.refused, x.past, y.past, z.past)
-  late_by by_rule bo ba br bv be x y z = grind (arith, x.refused, y.refused, z.refused, x.past, y.past, z.past)
-  late_by by_void bo ba br bv be x y z = grind (arith, x.refused, y.refused, z.refused, x.past, y.past, z.past)
-  late_by by_end bo ba br bv be x y z = grind (arith, x.refused, y.refused, z.refused, x.past, y.past, z.past)
-  late_by by_none bo ba br bv be x y z = grind (arith, x.refused, y.refused, z.refused, x.past, y.past, z.past)
+  -- the byte after the bracket tells at most one form
+  late_by : (o : Option ℕ) (bo ba br bv be : Bool) → Way m (is_byte 114 o) br jr R → Way m (is_byte 118 o) bv jv V → Way m (is_byte 101 o) be je E → LateBy (is_byte 111 o) (is_byte 97 o) (is_byte 114 o) (is_byte 118 o) (is_byte 101 o) bo ba br bv be
+  late_by None bo ba br bv be x y z = grind (arith, x.refused, y.refused, z.refused, x.past, y.past, z.past)
+  late_by (Some b) bo ba br bv be x y z = grind (arith, nat_tests, x.refused, y.refused, z.refused, x.past, y.past, z.past)
 
   module _ (ja : ℕ) (A : Result X Fault) where
     abbrev EarlyBy : Bool → Bool → Bool → Bool → Bool → Bool → Bool → Bool → Bool → Bool → Type 0
@@ -123,13 +83,9 @@ module _ {X : Type 0} (m jr jv je : ℕ) (R V E : Result X Fault) where
         let N = wrong_at (max (cond a ja m) (late_reach r v e)) in
         cond a A (cond r R (cond v V E)) ≡ by_kind (kind_by (o && bo) (a && ba) (r && br) (v && bv) (e && be)) N A R V E N
 
-    early_by : {o a r v e : Bool} → Told o a r v e → (bo ba br bv be : Bool) → Way m a ba ja A → Way m r br jr R → Way m v bv jv V → Way m e be je E → EarlyBy o a r v e bo ba br bv be
-    early_by by_order bo ba br bv be w x y z = grind (arith, w.refused, x.refused, y.refused, z.refused, w.past, x.past, y.past, z.past)
-    early_by by_atom bo ba br bv be w x y z = grind (arith, w.refused, x.refused, y.refused, z.refused, w.past, x.past, y.past, z.past)
-    early_by by_rule bo ba br bv be w x y z = grind (arith, w.refused, x.refused, y.refused, z.refused, w.past, x.past, y.past, z.past)
-    early_by by_void bo ba br bv be w x y z = grind (arith, w.refused, x.refused, y.refused, z.refused, w.past, x.past, y.past, z.past)
-    early_by by_end bo ba br bv be w x y z = grind (arith, w.refused, x.refused, y.refused, z.refused, w.past, x.past, y.past, z.past)
-    early_by by_none bo ba br bv be w x y z = grind (arith, w.refused, x.refused, y.refused, z.refused, w.past, x.past, y.past, z.past)
+    early_by : (o : Option ℕ) (bo ba br bv be : Bool) → Way m (is_byte 97 o) ba ja A → Way m (is_byte 114 o) br jr R → Way m (is_byte 118 o) bv jv V → Way m (is_byte 101 o) be je E → EarlyBy (is_byte 111 o) (is_byte 97 o) (is_byte 114 o) (is_byte 118 o) (is_byte 101 o) bo ba br bv be
+    early_by None bo ba br bv be w x y z = grind (arith, w.refused, x.refused, y.refused, z.refused, w.past, x.past, y.past, z.past)
+    early_by (Some b) bo ba br bv be w x y z = grind (arith, nat_tests, w.refused, x.refused, y.refused, z.refused, w.past, x.past, y.past, z.past)
 
 -- a choice after the bracket, or no bracket
 module _ {X : Type 0} (at : ℕ) where
@@ -260,7 +216,7 @@ module _ {S : Type 0} (kind : Notation S) (room : Counts) (atoms rules : ℕ) wh
       let m = at + 1 in
       let bytes = drop (m + 1) text in
       let bracket = is_byte 40 (slice_get text at) in
-      let choice = late_by m _ _ _ _ _ _ (told (slice_get text m)) (begins order_tail bytes) (begins atom_tail bytes) _ _ _ (way 114 rule_tail text m _) (way 118 void_tail text m _) (way 101 end_tail text m _) in
+      let choice = late_by m _ _ _ _ _ _ (slice_get text m) (begins order_tail bytes) (begins atom_tail bytes) _ _ _ (way 114 rule_tail text m _) (way 118 void_tail text m _) (way 101 end_tail text m _) in
       let place = late_place at bracket _ _ _ in
       byte_first 40 text at _
       ∙ opened at bracket _ _ _ _ _ _ _ _ _ _ _ choice
@@ -273,7 +229,7 @@ module _ {S : Type 0} (kind : Notation S) (room : Counts) (atoms rules : ℕ) wh
       let m = at + 1 in
       let bytes = drop (m + 1) text in
       let bracket = is_byte 40 (slice_get text at) in
-      let choice = early_by m _ _ _ _ _ _ _ _ (told (slice_get text m)) (begins order_tail bytes) _ _ _ _ (way 97 atom_tail text m _) (way 114 rule_tail text m _) (way 118 void_tail text m _) (way 101 end_tail text m _) in
+      let choice = early_by m _ _ _ _ _ _ _ _ (slice_get text m) (begins order_tail bytes) _ _ _ _ (way 97 atom_tail text m _) (way 114 rule_tail text m _) (way 118 void_tail text m _) (way 101 end_tail text m _) in
       byte_first 40 text at _
       ∙ opened at bracket _ _ _ _ _ _ _ _ _ _ _ choice
       ∙ table_same _ _ _ _ _ _ _ _ _ _ _ _ (kind_at text at) (early_place at bracket _ _ _ _) (sym (word_first 40 _ text at _)) (sym (word_first 40 _ text at _)) (sym (word_first 40 _ text at _)) (sym (word_first 40 _ text at _))
