@@ -1,7 +1,7 @@
 -- Readers of pieces that agree with their grammar, put together.
 use Rattle.std.proofs.Common.{◌≡◌, ℕ, ◌+◌, ◌≤◌, Bool, true, false, cond, List, [], ◌∷◌, ◌++◌, length, drop, Some, None, Ok, Err, Option, Result, sym, refl, ap, ◌∙◌, subst, inl, inr, arith}
 use Rattle.std.proofs.lemmas.List.{append_assoc, length-append}
-use Rattle.std.proofs.lemmas.Bool.{cases_eq, eq-eqb, ne_eqb}
+use Rattle.std.proofs.lemmas.Bool.{cases_eq}
 use Rattle.std.specs.List.{slice_get}
 use Rattle.books.specs.declared.fault.ReadFault.TheVariants.{Byte, NotRising, Number, TooMany, AtomMissing}
 use Rattle.books.specs.declared.fault.Fault.{Fault}
@@ -67,7 +67,7 @@ module _ {X Y : Type 0} (text other : List ℕ) where
   shared_then (Err e) s f g h k n = at_byte_map e (λ i a same. ap (λ b. and_then b g) (a same)) h
 
 -- a piece that is read, and then one that is read from its end on, are read together
-pub reads_then : {X Y : Type 0} (c : Care) (r : Result (X × ℕ) Fault) (f : X × ℕ → Result (Y × ℕ) Fault) (x : X) (n : ℕ) (y : Y) (m : ℕ) → Reads c r x n → Reads c (f (x, n)) y m → Reads c (and_then r f) y m
+reads_then : {X Y : Type 0} (c : Care) (r : Result (X × ℕ) Fault) (f : X × ℕ → Result (Y × ℕ) Fault) (x : X) (n : ℕ) (y : Y) (m : ℕ) → Reads c r x n → Reads c (f (x, n)) y m → Reads c (and_then r f) y m
 reads_then c r f x n y m (inl e) h = subst (λ s. Reads c (and_then s f) y m) (sym e) h
 reads_then c r f x n y m (inr (s, (e, q, b))) h = inr (s, (e, ap (λ a. and_then a f) q, b))
 
@@ -129,8 +129,8 @@ agrees_before to a =
     }
 
 -- a piece, and then one that goes by what the first says
-pub agrees_then : {X Y : Type 0} (P : List ℕ → ℕ → Result (X × ℕ) Fault) (Q : ℕ → X → List ℕ → ℕ → Result (Y × ℕ) Fault) (G : Care → X → List ℕ → Type 0) (H : X → Care → Y → List ℕ → Type 0) (Stop After : List ℕ → Type 0) → Agrees P G Stop → ((at : ℕ) (x : X) → Agrees (Q at x) (H x) After) → ((c : Care) (x : X) (y : Y) (piece rest : List ℕ) → H x c y piece → After rest → Stop (piece ++ rest)) → Agrees (λ text at. and_then (P text at) (λ p. Q at p.0 text p.1)) (Via G H) After
-agrees_then {X} {Y} P Q G H Stop After a b starts =
+pub agrees_then : {X Y : Type 0} {P : List ℕ → ℕ → Result (X × ℕ) Fault} {Q : ℕ → X → List ℕ → ℕ → Result (Y × ℕ) Fault} {G : Care → X → List ℕ → Type 0} {H : X → Care → Y → List ℕ → Type 0} {Stop After : List ℕ → Type 0} → Agrees P G Stop → ((at : ℕ) (x : X) → Agrees (Q at x) (H x) After) → ((c : Care) (x : X) (y : Y) (piece rest : List ℕ) → H x c y piece → After rest → Stop (piece ++ rest)) → Agrees (λ text at. and_then (P text at) (λ p. Q at p.0 text p.1)) (Via G H) After
+agrees_then {X} {Y} {P} {Q} {G} {H} {Stop} {After} a b starts =
     record {
       shaped = λ c y piece v. record { value = v.value; parts = record { front = v.parts.front; back = v.parts.back; whole = v.parts.whole; first = a.shaped c v.value v.parts.front v.parts.first; second = (b 0 v.value).shaped c y v.parts.back v.parts.second } };
       sample = let s = a.sample in let t = (b 0 s.0).sample in (t.0, s.1 ++ t.1, via G H [] shape s.0 t.0 s.1 t.1 (s.1 ++ t.1) refl s.2 t.2);
@@ -144,7 +144,7 @@ agrees_then {X} {Y} P Q G H Stop After a b starts =
         let x = v.value in
         let front = v.parts.front in
         let back = v.parts.back in
-        let stands : drop at text ≡ front ++ (back ++ rest) = d ∙ ap (λ t. t ++ rest) v.parts.whole ∙ append_assoc front back rest in
+        let stands : drop at text ≡ front ++ (back ++ rest) = grind (arith, d, v.parts.whole, append_assoc) in
         let past = drop_past text at front (back ++ rest) stands in
         let place : at + length front + length back ≡ at + length piece = omega (arith, length-append front back, ap length v.parts.whole) in
         let one = a.reads c x front (back ++ rest) text at v.parts.first (starts c x y back rest v.parts.second s) stands in
@@ -152,8 +152,8 @@ agrees_then {X} {Y} P Q G H Stop After a b starts =
         reads_then c (P text at) (λ p. Q at p.0 text p.1) x (at + length front) y (at + length piece) one (subst (Reads c (Q at x text (at + length front)) y) place two)
 
 -- nothing more is read
-pub agrees_done : {X : Type 0} (v : X) (Stop : List ℕ → Type 0) → Agrees (λ text at. Ok (v, at)) (λ c x piece. (x ≡ v) × (piece ≡ [])) Stop
-agrees_done v Stop =
+pub agrees_done : {X : Type 0} (v : X) {Stop : List ℕ → Type 0} → Agrees (λ text at. Ok (v, at)) (λ c x piece. (x ≡ v) × (piece ≡ [])) Stop
+agrees_done v =
     record {
       shaped = λ c x piece h. h;
       sample = (v, [], (refl, refl));
@@ -165,7 +165,7 @@ agrees_done v Stop =
     }
 
 -- the fault, unless the test is passed; the rest of a reader where it is
-module _ {X : Type 0} (e : Fault) (other-fault : AtByte e (λ _. ⊥)) (P : List ℕ → ℕ → Result (X × ℕ) Fault) (G : Care → X → List ℕ → Type 0) (Stop : List ℕ → Type 0) (a : Agrees P G Stop) where
+module _ {X : Type 0} (e : Fault) (other-fault : AtByte e (λ _. ⊥)) {P : List ℕ → ℕ → Result (X × ℕ) Fault} {G : Care → X → List ℕ → Type 0} {Stop : List ℕ → Type 0} (a : Agrees P G Stop) where
   abbrev Passed : Bool → Care → X → List ℕ → Type 0
   Passed b c x piece = Kept c (b ≡ true) × G c x piece
 
@@ -237,11 +237,11 @@ module _ (byte : ℕ) where
       ]
 
   -- the byte at a place from which a text goes on with it
-  pub front_byte : (text : List ℕ) (at : ℕ) (rest : List ℕ) → drop at text ≡ byte ∷ rest → slice_get text at ≡ Some byte
+  front_byte : (text : List ℕ) (at : ℕ) (rest : List ℕ) → drop at text ≡ byte ∷ rest → slice_get text at ≡ Some byte
   front_byte text at rest d = slice_get_front text at ∙ ap (λ t. slice_get t 0) d
 
   -- a byte that stands at the place is passed
-  pub pass_byte : (text : List ℕ) (at : ℕ) → slice_get text at ≡ Some byte → pass_at byte text at ≡ Ok (at + 1)
+  pass_byte : (text : List ℕ) (at : ℕ) → slice_get text at ≡ Some byte → pass_at byte text at ≡ Ok (at + 1)
   pass_byte text at e = rw e (grind (arith, nat_tests))
 
   agrees_byte : Agrees (λ text at. unsaid (pass_at byte text at)) Byted (λ _. Unit {0})
@@ -258,25 +258,25 @@ module _ (byte : ℕ) where
       }
 
   -- a byte that must stand there, and then what may go by its place
-  pub byte_then_at : {Y : Type 0} (K : ℕ → List ℕ → ℕ → Result (Y × ℕ) Fault) (G : Care → Y → List ℕ → Type 0) (Stop : List ℕ → Type 0) → ((at : ℕ) → Agrees (K at) G Stop) → Agrees (λ text at. and_then (pass_at byte text at) (K at text)) (λ c y. Followed (Exactly (byte ∷ [])) (G c y)) Stop
-  byte_then_at K G Stop a =
+  pub byte_then_at : {Y : Type 0} {K : ℕ → List ℕ → ℕ → Result (Y × ℕ) Fault} {G : Care → Y → List ℕ → Type 0} {Stop : List ℕ → Type 0} → ((at : ℕ) → Agrees (K at) G Stop) → Agrees (λ text at. and_then (pass_at byte text at) (K at text)) (λ c y. Followed (Exactly (byte ∷ [])) (G c y)) Stop
+  byte_then_at {K} a =
       agrees_same (λ text at. then_then (pass_at byte text at) (λ n. Ok (tt, n)) (λ p. K at text p.1))
       (agrees_as (λ c y piece v. v.parts) (λ c y piece f. record { value = tt; parts = f })
-      (agrees_then (λ text at. unsaid (pass_at byte text at)) (λ at u. K at) Byted (λ u. G) (λ _. Unit {0}) Stop agrees_byte (λ at u. a at) (λ c u y piece rest h s. tt)))
+      (agrees_then agrees_byte (λ at u. a at) (λ c u y piece rest h s. tt)))
 
   -- the same, where the rest does not go by it
-  pub byte_then : {Y : Type 0} (K : List ℕ → ℕ → Result (Y × ℕ) Fault) (G : Care → Y → List ℕ → Type 0) (Stop : List ℕ → Type 0) → Agrees K G Stop → Agrees (λ text at. and_then (pass_at byte text at) (K text)) (λ c y. Followed (Exactly (byte ∷ [])) (G c y)) Stop
-  byte_then K G Stop a = byte_then_at (λ at. K) G Stop (λ at. a)
+  pub byte_then : {Y : Type 0} {K : List ℕ → ℕ → Result (Y × ℕ) Fault} {G : Care → Y → List ℕ → Type 0} {Stop : List ℕ → Type 0} → Agrees K G Stop → Agrees (λ text at. and_then (pass_at byte text at) (K text)) (λ c y. Followed (Exactly (byte ∷ [])) (G c y)) Stop
+  byte_then a = byte_then_at (λ at. a)
 
 -- a word that must stand there, and then the rest
-pub word_then : {Y : Type 0} (word : List ℕ) (K : List ℕ → ℕ → Result (Y × ℕ) Fault) (G : Care → Y → List ℕ → Type 0) (Stop : List ℕ → Type 0) → Agrees K G Stop → Agrees (λ text at. and_then (pass_word word text at) (K text)) (λ c y. Followed (Exactly word) (G c y)) Stop
+pub word_then : {Y : Type 0} (word : List ℕ) {K : List ℕ → ℕ → Result (Y × ℕ) Fault} {G : Care → Y → List ℕ → Type 0} {Stop : List ℕ → Type 0} → Agrees K G Stop → Agrees (λ text at. and_then (pass_word word text at) (K text)) (λ c y. Followed (Exactly word) (G c y)) Stop
 unfolding pass_word
-word_then [] K G Stop a =
+word_then [] {K} {G} a =
     agrees_as
     (λ c y piece g. record { front = []; back = piece; whole = refl; first = refl; second = g })
     (λ c y piece f. subst (G c y) (sym (f.whole ∙ ap (λ t. t ++ f.back) f.first)) f.second)
     a
-word_then (b ∷ word) K G Stop a =
+word_then (b ∷ word) {K} {G} a =
     agrees_as (λ c y piece. word_to b word) (λ c y piece. word_from b word)
     (agrees_same (λ text at. sym (then_then (pass_at b text at) (pass_word word text) (K text)))
-    (byte_then b (λ text at. and_then (pass_word word text at) (K text)) (λ c y. Followed (Exactly word) (G c y)) Stop (word_then word K G Stop a)))
+    (byte_then b (word_then word a)))

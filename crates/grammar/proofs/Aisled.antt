@@ -1,5 +1,5 @@
 -- Routes agree with their grammar.
-use Rattle.std.proofs.Common.{◌≡◌, ℕ, ◌+◌, ◌^◌, ◌<◌, ◌≤◌, Bool, true, false, cond, ltb, List, [], ◌∷◌, Ok, Err, Result, sym, refl, ap, ◌∙◌, inl, inr, arith}
+use Rattle.std.proofs.Common.{◌≡◌, ℕ, ◌+◌, ◌^◌, ◌<◌, ◌≤◌, Bool, true, cond, ltb, List, [], ◌∷◌, Ok, Err, Result, sym, refl, ap, ◌∙◌, inl, inr, arith}
 use lib.Bits.{bit_or}
 use Rattle.std.proofs.lemmas.Bool.{cases_lt, lt-ltb, le-ltb, ltb-false}
 use Rattle.std.specs.List.{AllByRecursion}
@@ -71,11 +71,7 @@ module _ (text : List ℕ) where
   one_step s at =
       ap (λ r. and_then r (risen s at)) (number_limited text at 63)
       ∙ then_then (number_at text at unlimited) (λ q. cond (ltb 63 q.0) (Err (Reading (Number at))) (Ok q)) (risen s at)
-      ∙ then_same (number_at text at unlimited) _ _ (λ p. by_test p (ltb 63 p.0))
-    where
-      by_test : (p : ℕ × ℕ) (high : Bool) → and_then (cond high (Err (Reading (Number at))) (Ok p)) (risen s at) ≡ cond high (Err (Reading (Number at))) (risen s at p)
-      by_test p true = refl
-      by_test p false = refl
+      ∙ then_same (number_at text at unlimited) _ _ (λ p. grind arith)
 
 abbrev route : State → Route
 route s = record { aisles = s.0 }
@@ -118,9 +114,9 @@ pub route_agrees : Agrees route_at RouteSpelt Any
 route_agrees =
     agrees_same route_same
     (agrees_as to from
-    (agrees_then (listed walk 64 (0, 0)) (λ at t text m. Ok (route t, m)) Aisling Routed Any Any
+    (agrees_then
     (list_agrees walk ends 64 (0, 0) (omega arith))
-    (λ at t. agrees_done (route t) Any) (λ c t r piece rest g s. tt)))
+    (λ at t. agrees_done (route t)) (λ c t r piece rest g s. tt)))
   where
     to : (c : Care) (r : Route) (text : List ℕ) → Via Aisling Routed c r text → RouteSpelt c r text
     to c r text v =

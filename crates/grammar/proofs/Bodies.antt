@@ -1,5 +1,5 @@
 -- The lists of a rule agree with their grammar.
-use Rattle.std.proofs.Common.{◌≡◌, ℕ, ◌+◌, ◌<◌, ◌≤◌, Bool, true, false, cond, leb, List, [], ◌∷◌, ◌++◌, length, Ok, Err, sym, refl, ◌∙◌, subst, inl, arith}
+use Rattle.std.proofs.Common.{◌≡◌, ℕ, ◌+◌, ◌<◌, ◌≤◌, Bool, true, leb, List, [], ◌∷◌, ◌++◌, length, Ok, sym, refl, ◌∙◌, subst, inl, arith}
 use Rattle.std.proofs.lemmas.List.{append_assoc, append-nil, length_push}
 use Rattle.std.proofs.lemmas.Bool.{leb-false, le-leb, lt-leb}
 use Rattle.std.specs.List.{AllByRecursion}
@@ -52,12 +52,7 @@ module _ (site : Site) (before : ℕ) where
     one_step : (s : List ℕ) (at : ℕ) → one_literal text site before (state s true at) ≡ and_then (number_at text at largest) (turned walk state text s at)
     one_step s at =
         then_then (number_at text at largest) _ (λ p. Ok (extended (state s true at) p))
-        ∙ then_same (number_at text at largest) _ _ (λ p. by_tests p.0 p.1 (leb 6 (length s)) (leb site.atoms p.0))
-      where
-        by_tests : (v k : ℕ) (a b : Bool) → and_then (cond a (Err (walk.first_fault at s v)) (cond b (Err (walk.second_fault at s v)) (and_then (onward_at text k) (λ q. Ok (v, q.0, q.1))))) (λ p. Ok (extended (state s true at) p)) ≡ cond a (Err (walk.first_fault at s v)) (cond b (Err (walk.second_fault at s v)) (and_then (onward_at text k) (λ q. Ok (state (walk.add s v) q.0 q.1))))
-        by_tests v k true b = refl
-        by_tests v k false true = refl
-        by_tests v k false false = then_then (onward_at text k) (λ q. Ok (v, q.0, q.1)) (λ p. Ok (extended (state s true at) p))
+        ∙ then_same (number_at text at largest) _ _ (λ p. grind (arith, then_then (onward_at text p.1) (λ q. Ok (p.0, q.0, q.1)) (λ p. Ok (extended (state s true at) p))))
 
   body_same : (text : List ℕ) (at : ℕ) → listed walk 6 [] text at ≡ body_at text site before at
   unfolding body_at

@@ -99,14 +99,14 @@ module _ (k : ℕ) (r : Rule) where
 
   rule_unique : (atoms : ℕ) (text : List ℕ) → RuleForm plain atoms k (Some r) text → text ≡ rule_text k (Some r)
   rule_unique atoms text h =
-      followed_unique rule_opening (decimal k ++ after_number) text (exactly_unique rule_opening)
-      (λ t. followed_unique (decimal k) after_number t (numbered_unique k)
-      (λ t. followed_unique space (decimal r.head ++ after_head) t (exactly_unique space)
-      (λ t. followed_unique (decimal r.head) after_head t (declared_unique atoms r.head)
-      (λ t. followed_unique space (list_text r.positives ++ after_positives) t (exactly_unique space)
-      (λ t. followed_unique (list_text r.positives) after_positives t (body_unique atoms r.positives)
-      (λ t. followed_unique space (list_text r.negatives ++ closing) t (exactly_unique space)
-      (λ t. followed_unique (list_text r.negatives) closing t (body_unique atoms r.negatives) (exactly_unique closing)))))))) h
+      followed_unique (exactly_unique rule_opening)
+      (λ t. followed_unique (numbered_unique k)
+      (λ t. followed_unique (exactly_unique space)
+      (λ t. followed_unique (declared_unique atoms r.head)
+      (λ t. followed_unique (exactly_unique space)
+      (λ t. followed_unique (body_unique atoms r.positives)
+      (λ t. followed_unique (exactly_unique space)
+      (λ t. followed_unique (body_unique atoms r.negatives) (exactly_unique closing)))))))) h
       ∙ sym rule_text_lem
 
 rule_line_canonical : (atoms k : ℕ) (o : Option Rule) → atoms ≤ 1024 → k < 1024 → GaplessRow atoms o → RuleForm plain atoms k o (rule_text k o)
@@ -117,8 +117,8 @@ rule_line_canonical atoms k (Some r) a l s = rule_canonical k r atoms a l s
 
 rule_line_unique : (atoms k : ℕ) (o : Option Rule) (text : List ℕ) → RuleForm plain atoms k o text → text ≡ rule_text k o
 rule_line_unique atoms k None text h =
-    followed_unique void_opening (decimal k ++ closing) text (exactly_unique void_opening)
-    (λ t. followed_unique (decimal k) closing t (numbered_unique k) (exactly_unique closing)) h
+    followed_unique (exactly_unique void_opening)
+    (λ t. followed_unique (numbered_unique k) (exactly_unique closing)) h
     ∙ sym (append_assoc void_opening (decimal k) closing)
 rule_line_unique atoms k (Some r) text h = rule_unique k r atoms text h
 
@@ -131,7 +131,7 @@ rules_canonical atoms k (o ∷ os) a l s =
 rules_unique : (atoms k : ℕ) (os : List (Option Rule)) (text : List ℕ) → RuleForms plain atoms k os text → text ≡ lines_from rule_text k os
 rules_unique atoms k [] text h = h
 rules_unique atoms k (o ∷ os) text h =
-    followed_unique (rule_text k o) (lines_from rule_text (k + 1) os) text (rule_line_unique atoms k o) (rules_unique atoms (k + 1) os) h
+    followed_unique (rule_line_unique atoms k o) (rules_unique atoms (k + 1) os) h
 
 rule_line_gapless : (atoms k : ℕ) (o : Option Rule) (text : List ℕ) → RuleForm kept atoms k o text → GaplessRow atoms o
 rule_line_gapless atoms k None text h = tt
@@ -172,10 +172,10 @@ module _ {S : Type 0} (n : Notation S) where
 
     atom_unique : ((text : List ℕ) → n.spells plain a.stamp text → text ≡ n.spelt a.stamp) → (text : List ℕ) → AtomForm n.spells plain i a text → text ≡ atom_line i a
     atom_unique s text h =
-        followed_unique atom_opening (decimal i ++ (kind_text a.reading ++ after_kind)) text (exactly_unique atom_opening)
-        (λ t. followed_unique (decimal i) (kind_text a.reading ++ after_kind) t (numbered_unique i)
-        (λ t. followed_unique (kind_text a.reading) after_kind t (exactly_unique (kind_text a.reading))
-        (λ t. followed_unique (n.spelt a.stamp) closing t s (exactly_unique closing)))) h
+        followed_unique (exactly_unique atom_opening)
+        (λ t. followed_unique (numbered_unique i)
+        (λ t. followed_unique (exactly_unique (kind_text a.reading))
+        (λ t. followed_unique s (exactly_unique closing)))) h
         ∙ sym atom_text_lem
 
   abbrev Held : List (Atom S) → Type 0
@@ -190,7 +190,7 @@ module _ {S : Type 0} (n : Notation S) where
   atoms_unique : ((s : S) (text : List ℕ) → n.spells plain s text → text ≡ n.spelt s) → (i : ℕ) (xs : List (Atom S)) (text : List ℕ) → AtomForms n.spells plain i xs text → text ≡ lines_from atom_line i xs
   atoms_unique s i [] text h = h
   atoms_unique s i (a ∷ xs) text h =
-      followed_unique (atom_line i a) (lines_from atom_line (i + 1) xs) text (atom_unique i a (s a.stamp)) (atoms_unique s (i + 1) xs) h
+      followed_unique (atom_unique i a (s a.stamp)) (atoms_unique s (i + 1) xs) h
 
   -- the lines of the rules and the end, and those of the atoms before them
   abbrev rest : Meaning S → List ℕ
@@ -222,10 +222,10 @@ module _ {S : Type 0} (n : Notation S) where
   -- and no other text does
   pub book_unique : ((s : S) (text : List ℕ) → n.spells plain s text → text ≡ n.spelt s) → (m : Meaning S) (text : List ℕ) → SpeltBy n plain m text → text ≡ written_of n m
   book_unique s m text h =
-      followed_unique (order_opening ++ (n.word ++ closing)) (lines m) text
-      (λ t. followed_unique order_opening (n.word ++ closing) t (exactly_unique order_opening) (λ u. followed_unique n.word closing u (exactly_unique n.word) (exactly_unique closing)))
-      (λ t. followed_unique (lines_from atom_line 0 m.atoms) (rest m) t (atoms_unique s 0 m.atoms)
-      (λ u. followed_unique (lines_from rule_text 0 m.rules) end_text u (rules_unique (length m.atoms) 0 m.rules) (exactly_unique end_text))) h
+      followed_unique
+      (λ t. followed_unique (exactly_unique order_opening) (λ u. followed_unique (exactly_unique n.word) (exactly_unique closing)))
+      (λ t. followed_unique (atoms_unique s 0 m.atoms)
+      (λ u. followed_unique (rules_unique (length m.atoms) 0 m.rules) (exactly_unique end_text))) h
       ∙ sym (book_text_lem m)
 
   atoms_held : ((s : S) (text : List ℕ) → n.spells kept s text → n.Fits s) → (i : ℕ) (xs : List (Atom S)) (text : List ℕ) → AtomForms n.spells kept i xs text → Held xs

@@ -80,7 +80,7 @@ later_text (x ∷ xs) =
     ∙ ap (λ t. (space ++ decimal x) ++ t) (later_text xs)
 
 -- the numbers of a list as the writer has them, each after a space unless it is the first
-pub items_text : (xs : List ℕ) → up_to (λ i. item i (slice_get xs i)) (length xs) ≡ spaced_text xs
+items_text : (xs : List ℕ) → up_to (λ i. item i (slice_get xs i)) (length xs) ≡ spaced_text xs
 unfolding up_to
 items_text [] = refl
 items_text (x ∷ xs) =
@@ -102,8 +102,8 @@ spaced_unique : (limit : ℕ) (xs text : List ℕ) → Spaced plain limit xs tex
 spaced_unique limit [] text h = h
 spaced_unique limit (x ∷ []) text h = numeral_unique limit x text h ∙ sym (append-nil (decimal x))
 spaced_unique limit (x ∷ y ∷ xs) text h =
-    followed_unique (decimal x) (space ++ spaced_text (y ∷ xs)) text (numeral_unique limit x)
-    (λ t. followed_unique space (spaced_text (y ∷ xs)) t (λ s e. e) (λ s. spaced_unique limit (y ∷ xs) s)) h
+    followed_unique (numeral_unique limit x)
+    (λ t. followed_unique (λ s e. e) (λ s. spaced_unique limit (y ∷ xs) s)) h
 
 -- the text that is written of a list spells it, with no leading zeros
 pub list_canonical : (limit : ℕ) (xs : List ℕ) → limit ≤ largest → AllByRecursion (λ n. n ≤ limit) xs → Listed plain limit xs (list_text xs)
@@ -114,7 +114,7 @@ list_canonical limit xs l h =
 -- and no other text does
 pub list_unique : (limit : ℕ) (xs text : List ℕ) → Listed plain limit xs text → text ≡ list_text xs
 list_unique limit xs text h =
-    followed_unique opening (spaced_text xs ++ shutting) text (λ t e. e) (λ t. followed_unique (spaced_text xs) shutting t (spaced_unique limit xs) (λ s e. e)) h
+    followed_unique (λ t e. e) (λ t. followed_unique (spaced_unique limit xs) (λ s e. e)) h
     ∙ sym (list_text_lem xs)
 
 -- the text that is written of a tick spells it, with no leading zeros
@@ -151,10 +151,10 @@ module _ (p : Then Tick Tick) where
   -- and no other text does
   pub pair_unique : (text : List ℕ) → PairSpelt plain p text → text ≡ pair_text p
   pair_unique text h =
-      followed_unique opening inner text (λ t e. e)
-      (λ t. followed_unique (decimal p.first.0) (space ++ second) t (tick_unique p.first)
-      (λ u. followed_unique space second u (λ s e. e)
-      (λ v. followed_unique (decimal p.second.0) shutting v (tick_unique p.second) (λ s e. e)))) h
+      followed_unique (λ t e. e)
+      (λ t. followed_unique (tick_unique p.first)
+      (λ u. followed_unique (λ s e. e)
+      (λ v. followed_unique (tick_unique p.second) (λ s e. e)))) h
       ∙ sym pair_text_lem
 
   -- the ticks of a pair that is read fit

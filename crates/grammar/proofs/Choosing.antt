@@ -55,9 +55,8 @@ module _ {X : Type 0} (byte : ℕ) (P Q : List ℕ → ℕ → Result (X × ℕ)
     shaped_choice c x piece (inl g) = inl (a.shaped c x piece g)
     shaped_choice c x piece (inr h) = inr (b.shaped c x piece h)
 
-    -- the choice by a byte agrees with the pieces of both, where the byte tells them apart
-    pub agrees_choice : Agrees chosen Either Stop
-    agrees_choice =
+    choice : Agrees chosen Either Stop
+    choice =
         record {
           shaped = shaped_choice;
           sample = let s = b.sample in (s.0, s.1, inr s.2);
@@ -66,22 +65,23 @@ module _ {X : Type 0} (byte : ℕ) (P Q : List ℕ → ℕ → Result (X × ℕ)
           reads = reads_choice;
         }
 
-flip : {X : Type 0} (b : Bool) (x y : X) → cond (not b) x y ≡ cond b y x
-flip true x y = refl
-flip false x y = refl
+-- the choice by a byte agrees with the pieces of both, where the byte tells them apart
+pub agrees_choice : {X : Type 0} (byte : ℕ) {P Q : List ℕ → ℕ → Result (X × ℕ) Fault} {G H : Care → X → List ℕ → Type 0} {Stop : List ℕ → Type 0} → Agrees P G Stop → Agrees Q H Stop → ((c : Care) (x : X) (piece rest : List ℕ) → G c x piece → is_byte byte (slice_get (piece ++ rest) 0) ≡ true) → ((c : Care) (x : X) (piece rest : List ℕ) → H c x piece → is_byte byte (slice_get (piece ++ rest) 0) ≡ false)
+    → Agrees (λ text at. cond (is_byte byte (slice_get text at)) (P text at) (Q text at)) (λ c x piece. G c x piece ⊎ H c x piece) Stop
+agrees_choice byte {P} {Q} {G} {H} {Stop} = choice byte P Q G H Stop
 
 -- a fault that is no byte's, where a test finds one
-pub agrees_unless : {X : Type 0} (e : Fault) → AtByte e (λ _. ⊥) → (P : List ℕ → ℕ → Result (X × ℕ) Fault) (G : Care → X → List ℕ → Type 0) (Stop : List ℕ → Type 0) → Agrees P G Stop → (b : Bool) → Agrees (λ text at. cond b (Err e) (P text at)) (λ c x piece. Kept c (b ≡ false) × G c x piece) Stop
-agrees_unless e n P G Stop a b =
-    agrees_same (λ text at. flip b (P text at) (Err e))
+pub agrees_unless : {X : Type 0} (e : Fault) → AtByte e (λ _. ⊥) → {P : List ℕ → ℕ → Result (X × ℕ) Fault} {G : Care → X → List ℕ → Type 0} {Stop : List ℕ → Type 0} → Agrees P G Stop → (b : Bool) → Agrees (λ text at. cond b (Err e) (P text at)) (λ c x piece. Kept c (b ≡ false) × G c x piece) Stop
+agrees_unless e n {P} a b =
+    agrees_same (λ text at. grind arith)
     (agrees_as
     (λ c x piece h. (kept_map c (not-true b) h.0, h.1))
     (λ c x piece h. (kept_map c (ap not) h.0, h.1))
-    (agrees_if e n P G Stop a (not b)))
+    (agrees_if e n a (not b)))
 
 -- a reader that never answers agrees with a grammar of which no piece keeps the rules
-pub agrees_never : {X : Type 0} (e : Fault) → AtByte e (λ _. ⊥) → (G : Care → X → List ℕ → Type 0) (Stop : List ℕ → Type 0) → ((c : Care) (x : X) (piece : List ℕ) → G c x piece → G shape x piece) → ((x : X) × (piece : List ℕ) × G shape x piece) → ((c : Care) (x : X) (piece : List ℕ) → G c x piece → Kept c ⊥) → Agrees (λ text at. Err e) G Stop
-agrees_never {X} e n G Stop shaped sample none =
+pub agrees_never : {X : Type 0} (e : Fault) → AtByte e (λ _. ⊥) → {G : Care → X → List ℕ → Type 0} {Stop : List ℕ → Type 0} → ((c : Care) (x : X) (piece : List ℕ) → G c x piece → G shape x piece) → ((x : X) × (piece : List ℕ) × G shape x piece) → ((c : Care) (x : X) (piece : List ℕ) → G c x piece → Kept c ⊥) → Agrees (λ text at. Err e) G Stop
+agrees_never {X} e n shaped sample none =
     record {
       shaped = shaped;
       sample = sample;

@@ -1,6 +1,5 @@
 -- The form at a place, chosen byte by byte.
-use Rattle.std.proofs.Common.{◌≡◌, ℕ, ◌+◌, ◌≤◌, max, Bool, true, false, cond, ◌&&◌, eqb, List, [], ◌∷◌, drop, Some, None, Ok, codes, Option, Result, sym, refl, ap, ◌∙◌, subst, inl, inr, arith}
-use Rattle.std.proofs.lemmas.Bool.{cases_eq, ne_eqb}
+use Rattle.std.proofs.Common.{◌≡◌, ℕ, ◌+◌, ◌≤◌, max, Bool, false, cond, ◌&&◌, List, [], ◌∷◌, drop, Some, None, Ok, codes, Option, Result, sym, ap, ◌∙◌, arith}
 use Rattle.std.specs.List.{slice_get}
 use Rattle.books.specs.declared.fault.Fault.{Fault}
 use Rattle.text.specs.Bytes.{and_then, wrong_at, pass_at}
@@ -14,78 +13,26 @@ use Rattle.text.specs.declared.kind.Kind.TheVariants as kinds
 use Rattle.text.specs.declared.reader.Stage.TheVariants.{Start, Atoms, Rules}
 use Rattle.text.specs.declared.counts.Counts.{Counts}
 use Rattle.grammar.specs.Notations.{Notation}
-
-pass_by : {X : Type 0} (t : Bool) (at m : ℕ) (K : ℕ → Result X Fault) → and_then (cond t (Ok m) (wrong_at at)) K ≡ cond t (K m) (wrong_at at)
-pass_by true at m K = refl
-pass_by false at m K = refl
+use Rattle.std.proofs.lemmas.Bool.Decides.{nat_tests}
 
 byte_first : {X : Type 0} (b : ℕ) (text : List ℕ) (at : ℕ) (K : ℕ → Result X Fault) → and_then (pass_at b text at) K ≡ cond (is_byte b (slice_get text at)) (K (at + 1)) (wrong_at at)
-byte_first b text at K = ap (λ r. and_then r K) (pass_if_lem b at (slice_get text at)) ∙ pass_by (is_byte b (slice_get text at)) at (at + 1) K
-
-word_by : {X : Type 0} (t : Bool) (at m : ℕ) (P : ℕ → Result ℕ Fault) (K : ℕ → Result X Fault) → and_then (cond t (P m) (wrong_at at)) K ≡ cond t (and_then (P m) K) (wrong_at at)
-word_by true at m P K = refl
-word_by false at m P K = refl
+byte_first b text at K = grind (arith, pass_if_lem b at (slice_get text at))
 
 -- a word is passed by its first byte, and then the rest
 word_first : {X : Type 0} (b : ℕ) (word text : List ℕ) (at : ℕ) (K : ℕ → Result X Fault) → and_then (pass_word (b ∷ word) text at) K ≡ cond (is_byte b (slice_get text at)) (and_then (pass_word word text (at + 1)) K) (wrong_at at)
 unfolding pass_word
-word_first b word text at K = ap (λ r. and_then r K) (byte_first b text at (pass_word word text)) ∙ word_by (is_byte b (slice_get text at)) at (at + 1) (pass_word word text) K
+word_first b word text at K = grind (arith, byte_first b text at (pass_word word text))
 
 -- a word with which the text does not begin is refused where they part
 word_refused : {X : Type 0} (word text : List ℕ) (at : ℕ) (K : ℕ → Result X Fault) → begins word (drop at text) ≡ false → and_then (pass_word word text at) K ≡ wrong_at (agrees_to word text at)
 unfolding agrees_to
 word_refused [] text at K h = absurd (grind arith)
-word_refused {X} (b ∷ word) text at K h = word_first b word text at K ∙ parts (is_byte b (slice_get text at)) (begins word (drop (at + 1) text)) (and_then (pass_word word text (at + 1)) K) (agrees_to word text (at + 1)) (word_refused word text (at + 1) K) (sym (begins_step b word text at) ∙ h)
-  where
-    parts : (t u : Bool) (r : Result X Fault) (j : ℕ) → (u ≡ false → r ≡ wrong_at j) → (t && u) ≡ false → cond t r (wrong_at at) ≡ wrong_at (cond t j at)
-    parts true u r j f e = f e
-    parts false u r j f e = refl
+word_refused (b ∷ word) text at K h = rw (word_first b word text at K) (grind (arith, word_refused word text (at + 1) K, begins_step b word text at, h))
 
 agrees_past : (word text : List ℕ) (at : ℕ) → at ≤ agrees_to word text at
 unfolding agrees_to
 agrees_past [] text at = omega arith
-agrees_past (b ∷ word) text at = by_test (is_byte b (slice_get text at)) (agrees_to word text (at + 1)) (agrees_past word text (at + 1))
-  where
-    by_test : (t : Bool) (j : ℕ) → at + 1 ≤ j → at ≤ cond t j at
-    by_test true j l = omega arith
-    by_test false j l = omega arith
-
--- the byte after a bracket tells at most one form
-data Told : Bool → Bool → Bool → Bool → Bool → Type 0 where
-  by_order : Told true false false false false
-  by_atom : Told false true false false false
-  by_rule : Told false false true false false
-  by_void : Told false false false true false
-  by_end : Told false false false false true
-  by_none : Told false false false false false
-
-abbrev TellsBy : ℕ → Type 0
-TellsBy b = Told (eqb b 111) (eqb b 97) (eqb b 114) (eqb b 118) (eqb b 101)
-
-told : (o : Option ℕ) → Told (is_byte 111 o) (is_byte 97 o) (is_byte 114 o) (is_byte 118 o) (is_byte 101 o)
-told None = by_none
-told (Some b) =
-    elim (cases_eq b 111) [
-      | inl e ↦ subst TellsBy (sym e) by_order
-      | inr o ↦
-          elim (cases_eq b 97) [
-            | inl e ↦ subst TellsBy (sym e) by_atom
-            | inr a ↦
-                elim (cases_eq b 114) [
-                  | inl e ↦ subst TellsBy (sym e) by_rule
-                  | inr r ↦
-                      elim (cases_eq b 118) [
-                        | inl e ↦ subst TellsBy (sym e) by_void
-                        | inr v ↦
-                            elim (cases_eq b 101) [
-                              | inl e ↦ subst TellsBy (sym e) by_end
-                              | inr n ↦
-                                  rw (ne_eqb b 111 o, ne_eqb b 97 a, ne_eqb b 114 r, ne_eqb b 118 v, ne_eqb b 101 n) by_none
-                            ]
-                      ]
-                ]
-          ]
-    ]
+agrees_past (b ∷ word) text at = grind (arith, agrees_past word text (at + 1))
 
 -- the kind, by whether the text begins with each opening
 abbrev kind_by : Bool → Bool → Bool → Bool → Bool → Option Kind
@@ -96,12 +43,7 @@ kind_same o a r v e o' a' r' v' e' p q s t u = rw (p, q, s, t, u)
 
 -- where only one form is allowed, its reader refuses what does not begin it
 one_by : {X : Type 0} (O N : X) (o a r v e : Bool) → (o ≡ false → O ≡ N) → O ≡ by_kind (kind_by o a r v e) O N N N N N
-one_by O N true a r v e h = refl
-one_by O N false true r v e h = h refl
-one_by O N false false true v e h = h refl
-one_by O N false false false true e h = h refl
-one_by O N false false false false true h = h refl
-one_by O N false false false false false h = h refl
+one_by O N o a r v e h = grind (arith, h)
 
 -- how a form is read from the byte that tells it: whether that byte stands there, whether the rest begins so, the place up to which it agrees
 record Way {X : Type 0} (m : ℕ) (here begun : Bool) (reach : ℕ) (answer : Result X Fault) : Type 0 where
@@ -119,10 +61,6 @@ way b word text m K =
       refused = λ h. word_refused (b ∷ word) text m K (begins_step b word text m ∙ h);
     }
 
--- a refusal at the same place
-at_place : {X : Type 0} (r : Result X Fault) (j k : ℕ) → r ≡ wrong_at j → j ≡ k → r ≡ wrong_at k
-at_place r j k h e = h ∙ ap wrong_at e
-
 -- the choice by the byte that tells the form is the choice by its kind
 module _ {X : Type 0} (m jr jv je : ℕ) (R V E : Result X Fault) where
   -- the place up to which the text agrees with a form of a rule
@@ -134,18 +72,10 @@ module _ {X : Type 0} (m jr jv je : ℕ) (R V E : Result X Fault) where
       let N = wrong_at (late_reach r v e) in
       cond r R (cond v V E) ≡ by_kind (kind_by (o && bo) (a && ba) (r && br) (v && bv) (e && be)) N N R V E N
 
-  late_by : {o a r v e : Bool} → Told o a r v e → (bo ba br bv be : Bool) → Way m r br jr R → Way m v bv jv V → Way m e be je E → LateBy o a r v e bo ba br bv be
-  late_by by_order true ba br bv be x y z = at_place E m _ (z.refused refl) (omega arith)
-  late_by by_order false ba br bv be x y z = at_place E m _ (z.refused refl) (omega arith)
-  late_by by_atom bo true br bv be x y z = at_place E m _ (z.refused refl) (omega arith)
-  late_by by_atom bo false br bv be x y z = at_place E m _ (z.refused refl) (omega arith)
-  late_by by_rule bo ba true bv be x y z = refl
-  late_by by_rule bo ba false bv be x y z = at_place R jr _ (x.refused refl) (omega (arith, x.past))
-  late_by by_void bo ba br true be x y z = refl
-  late_by by_void bo ba br false be x y z = at_place V jv _ (y.refused refl) (omega (arith, y.past))
-  late_by by_end bo ba br bv true x y z = refl
-  late_by by_end bo ba br bv false x y z = at_place E je _ (z.refused refl) (omega (arith, z.past))
-  late_by by_none bo ba br bv be x y z = at_place E m _ (z.refused refl) (omega arith)
+  -- the byte after the bracket tells at most one form
+  late_by : (o : Option ℕ) (bo ba br bv be : Bool) → Way m (is_byte 114 o) br jr R → Way m (is_byte 118 o) bv jv V → Way m (is_byte 101 o) be je E → LateBy (is_byte 111 o) (is_byte 97 o) (is_byte 114 o) (is_byte 118 o) (is_byte 101 o) bo ba br bv be
+  late_by None bo ba br bv be x y z = grind (arith, x.refused, y.refused, z.refused, x.past, y.past, z.past)
+  late_by (Some b) bo ba br bv be x y z = grind (arith, nat_tests, x.refused, y.refused, z.refused, x.past, y.past, z.past)
 
   module _ (ja : ℕ) (A : Result X Fault) where
     abbrev EarlyBy : Bool → Bool → Bool → Bool → Bool → Bool → Bool → Bool → Bool → Bool → Type 0
@@ -153,18 +83,9 @@ module _ {X : Type 0} (m jr jv je : ℕ) (R V E : Result X Fault) where
         let N = wrong_at (max (cond a ja m) (late_reach r v e)) in
         cond a A (cond r R (cond v V E)) ≡ by_kind (kind_by (o && bo) (a && ba) (r && br) (v && bv) (e && be)) N A R V E N
 
-    early_by : {o a r v e : Bool} → Told o a r v e → (bo ba br bv be : Bool) → Way m a ba ja A → Way m r br jr R → Way m v bv jv V → Way m e be je E → EarlyBy o a r v e bo ba br bv be
-    early_by by_order true ba br bv be w x y z = at_place E m _ (z.refused refl) (omega arith)
-    early_by by_order false ba br bv be w x y z = at_place E m _ (z.refused refl) (omega arith)
-    early_by by_atom bo true br bv be w x y z = refl
-    early_by by_atom bo false br bv be w x y z = at_place A ja _ (w.refused refl) (omega (arith, w.past))
-    early_by by_rule bo ba true bv be w x y z = refl
-    early_by by_rule bo ba false bv be w x y z = at_place R jr _ (x.refused refl) (omega (arith, x.past))
-    early_by by_void bo ba br true be w x y z = refl
-    early_by by_void bo ba br false be w x y z = at_place V jv _ (y.refused refl) (omega (arith, y.past))
-    early_by by_end bo ba br bv true w x y z = refl
-    early_by by_end bo ba br bv false w x y z = at_place E je _ (z.refused refl) (omega (arith, z.past))
-    early_by by_none bo ba br bv be w x y z = at_place E m _ (z.refused refl) (omega arith)
+    early_by : (o : Option ℕ) (bo ba br bv be : Bool) → Way m (is_byte 97 o) ba ja A → Way m (is_byte 114 o) br jr R → Way m (is_byte 118 o) bv jv V → Way m (is_byte 101 o) be je E → EarlyBy (is_byte 111 o) (is_byte 97 o) (is_byte 114 o) (is_byte 118 o) (is_byte 101 o) bo ba br bv be
+    early_by None bo ba br bv be w x y z = grind (arith, w.refused, x.refused, y.refused, z.refused, w.past, x.past, y.past, z.past)
+    early_by (Some b) bo ba br bv be w x y z = grind (arith, nat_tests, w.refused, x.refused, y.refused, z.refused, w.past, x.past, y.past, z.past)
 
 -- a choice after the bracket, or no bracket
 module _ {X : Type 0} (at : ℕ) where
@@ -172,16 +93,13 @@ module _ {X : Type 0} (at : ℕ) where
   if_open t r = cond t r (wrong_at at)
 
   opened : (t o a r v e : Bool) (L N A R V E : Result X Fault) → L ≡ by_kind (kind_by o a r v e) N A R V E N → if_open t L ≡ by_kind (kind_by (t && o) (t && a) (t && r) (t && v) (t && e)) (if_open t N) (if_open t A) (if_open t R) (if_open t V) (if_open t E) (if_open t N)
-  opened true o a r v e L N A R V E h = h
-  opened false o a r v e L N A R V E h = refl
+  opened t o a r v e L N A R V E h = grind (arith, h)
 
   late_place : (t : Bool) (r v e : ℕ) → if_open t (wrong_at (max r (max v e))) ≡ wrong_at (max (cond t r at) (max (cond t v at) (cond t e at)))
-  late_place true r v e = refl
-  late_place false r v e = ap wrong_at (omega arith)
+  late_place t r v e = grind arith
 
   early_place : (t : Bool) (a r v e : ℕ) → if_open t (wrong_at (max a (max r (max v e)))) ≡ wrong_at (max (cond t a at) (max (cond t r at) (max (cond t v at) (cond t e at))))
-  early_place true a r v e = refl
-  early_place false a r v e = ap wrong_at (omega arith)
+  early_place t a r v e = grind arith
 
 table_same : {X : Type 0} (k k' : Option Kind) (N N' A A' R R' V V' E E' : X) → k ≡ k' → N ≡ N' → A ≡ A' → R ≡ R' → V ≡ V' → E ≡ E' → by_kind k N A R V E N ≡ by_kind k' N' A' R' V' E' N'
 table_same k k' N N' A A' R R' V V' E E' p q s t u w = cc
@@ -298,7 +216,7 @@ module _ {S : Type 0} (kind : Notation S) (room : Counts) (atoms rules : ℕ) wh
       let m = at + 1 in
       let bytes = drop (m + 1) text in
       let bracket = is_byte 40 (slice_get text at) in
-      let choice = late_by m _ _ _ _ _ _ (told (slice_get text m)) (begins order_tail bytes) (begins atom_tail bytes) _ _ _ (way 114 rule_tail text m _) (way 118 void_tail text m _) (way 101 end_tail text m _) in
+      let choice = late_by m _ _ _ _ _ _ (slice_get text m) (begins order_tail bytes) (begins atom_tail bytes) _ _ _ (way 114 rule_tail text m _) (way 118 void_tail text m _) (way 101 end_tail text m _) in
       let place = late_place at bracket _ _ _ in
       byte_first 40 text at _
       ∙ opened at bracket _ _ _ _ _ _ _ _ _ _ _ choice
@@ -311,7 +229,7 @@ module _ {S : Type 0} (kind : Notation S) (room : Counts) (atoms rules : ℕ) wh
       let m = at + 1 in
       let bytes = drop (m + 1) text in
       let bracket = is_byte 40 (slice_get text at) in
-      let choice = early_by m _ _ _ _ _ _ _ _ (told (slice_get text m)) (begins order_tail bytes) _ _ _ _ (way 97 atom_tail text m _) (way 114 rule_tail text m _) (way 118 void_tail text m _) (way 101 end_tail text m _) in
+      let choice = early_by m _ _ _ _ _ _ _ _ (slice_get text m) (begins order_tail bytes) _ _ _ _ (way 97 atom_tail text m _) (way 114 rule_tail text m _) (way 118 void_tail text m _) (way 101 end_tail text m _) in
       byte_first 40 text at _
       ∙ opened at bracket _ _ _ _ _ _ _ _ _ _ _ choice
       ∙ table_same _ _ _ _ _ _ _ _ _ _ _ _ (kind_at text at) (early_place at bracket _ _ _ _) (sym (word_first 40 _ text at _)) (sym (word_first 40 _ text at _)) (sym (word_first 40 _ text at _)) (sym (word_first 40 _ text at _))

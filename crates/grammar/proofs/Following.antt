@@ -13,9 +13,9 @@ pub onto : {A B C : List ℕ → Type 0} {text : List ℕ} (f : Followed A B tex
 onto f second = record { front = f.front; back = f.back; whole = f.whole; first = f.first; second = second }
 
 -- where each of two pieces has one text, so have they together
-pub followed_unique : {A B : List ℕ → Type 0} (front back text : List ℕ) → ((t : List ℕ) → A t → t ≡ front) → ((t : List ℕ) → B t → t ≡ back) → Followed A B text → text ≡ front ++ back
-followed_unique front back text a b h =
-    h.whole ∙ ap (λ t. t ++ h.back) (a h.front h.first) ∙ ap (λ t. front ++ t) (b h.back h.second)
+pub followed_unique : {A B : List ℕ → Type 0} {front back text : List ℕ} → ((t : List ℕ) → A t → t ≡ front) → ((t : List ℕ) → B t → t ≡ back) → Followed A B text → text ≡ front ++ back
+followed_unique a b h =
+    grind (arith, h.whole, a h.front h.first, b h.back h.second)
 
 -- each piece changed
 pub followed_map : {A B C D : List ℕ → Type 0} {text : List ℕ} → ((t : List ℕ) → A t → C t) → ((t : List ℕ) → B t → D t) → Followed A B text → Followed C D text
@@ -51,7 +51,7 @@ ungroup f =
 
 -- a piece and then nothing more
 pub ended : {A : List ℕ → Type 0} {P : Type 0} {text : List ℕ} → Followed A (λ p. P × (p ≡ [])) text → A text
-ended {A} f = subst A (sym (f.whole ∙ ap (λ t. f.front ++ t) f.second.1 ∙ append-nil f.front)) f.first
+ended {A} f = subst A (grind (arith, f.whole, f.second.1, append-nil)) f.first
 
 -- and a piece has nothing more after it
 pub unended : {A : List ℕ → Type 0} {P : Type 0} {text : List ℕ} → P → A text → Followed A (λ p. P × (p ≡ [])) text
@@ -60,12 +60,12 @@ unended {A} {P} {text} x a = record { front = text; back = []; whole = sym (appe
 -- a byte and then a word are one word
 pub word_to : (b : ℕ) (word : List ℕ) {A : List ℕ → Type 0} {piece : List ℕ} → Followed (Exactly (b ∷ [])) (Followed (Exactly word) A) piece → Followed (Exactly (b ∷ word)) A piece
 word_to b word f =
-    record { front = b ∷ word; back = f.second.back; whole = f.whole ∙ ap (λ t. t ++ f.back) f.first ∙ ap (λ t. b ∷ t) (f.second.whole ∙ ap (λ t. t ++ f.second.back) f.second.first); first = refl; second = f.second.second }
+    record { front = b ∷ word; back = f.second.back; whole = grind (arith, f.whole, f.first, f.second.whole, f.second.first); first = refl; second = f.second.second }
 
 -- and a word is its first byte and then the rest
 pub word_from : (b : ℕ) (word : List ℕ) {A : List ℕ → Type 0} {piece : List ℕ} → Followed (Exactly (b ∷ word)) A piece → Followed (Exactly (b ∷ [])) (Followed (Exactly word) A) piece
 word_from b word f =
-    record { front = b ∷ []; back = word ++ f.back; whole = f.whole ∙ ap (λ t. t ++ f.back) f.first; first = refl; second = record { front = word; back = f.back; whole = refl; first = refl; second = f.second } }
+    record { front = b ∷ []; back = word ++ f.back; whole = grind (arith, f.whole, f.first); first = refl; second = record { front = word; back = f.back; whole = refl; first = refl; second = f.second } }
 
 -- a piece that begins with a word begins with its first byte
 pub first_of : {b : ℕ} {word : List ℕ} {A : List ℕ → Type 0} {piece : List ℕ} (rest : List ℕ) → Followed (Exactly (b ∷ word)) A piece → slice_get (piece ++ rest) 0 ≡ Some b

@@ -1,5 +1,5 @@
 -- The parts of the forms agree with their grammar.
-use Rattle.std.proofs.Common.{◌≡◌, ℕ, Bool, true, false, cond, eqb, leb, ◌⊎◌, List, [], ◌++◌, length, Ok, Err, Result, sym, refl, ap, ◌∙◌, subst, inl, inr}
+use Rattle.std.proofs.Common.{◌≡◌, ℕ, Bool, true, false, cond, eqb, leb, ◌⊎◌, List, [], ◌++◌, length, Ok, Err, Result, sym, refl, ap, subst, inl, inr, arith}
 use Rattle.std.proofs.lemmas.List.{append-nil}
 use Rattle.std.proofs.lemmas.Bool.{leb-false, lt-leb, eqb-true, eq-eqb}
 use Rattle.books.specs.Meaning.{Rule}
@@ -11,7 +11,7 @@ use Rattle.text.specs.Forms.{next_number, reading_at, in_word, out_word}
 use Rattle.text.specs.Numbers.{digit_of, number_at}
 use Rattle.text.specs.Rules.{head_at, body_at, rule_at}
 use Rattle.text.specs.Spelt.{space}
-use Rattle.text.specs.Words.{pass_word, is_byte}
+use Rattle.text.specs.Words.{is_byte}
 use Rattle.text.specs.declared.site.Site.{Site}
 use Rattle.grammar.specs.Pieces.{Care, Kept, Exactly, Followed, Numeral, largest}
 use Rattle.grammar.specs.Grammar.{Numbered, Declared, Body}
@@ -27,18 +27,17 @@ abbrev Known : Site → ℕ → Care → ℕ → List ℕ → Type 0
 Known site v c n piece = Kept c (leb site.atoms v ≡ false) × ((n ≡ v) × (piece ≡ []))
 
 -- the head of a rule
-pub head_agrees : (site : Site) → Agrees (λ text at. head_at text site at) (λ c n text. Declared c site.atoms n text) NoDigit
+head_agrees : (site : Site) → Agrees (λ text at. head_at text site at) (λ c n text. Declared c site.atoms n text) NoDigit
 head_agrees site =
     agrees_as to from
-    (agrees_then (λ text at. number_at text at largest) (λ at v text m. cond (leb site.atoms v) (Err (Reading (AtomMissing site.rule 0))) (Ok (v, m)))
-    (λ c v piece. Numeral c largest v piece) (Known site) NoDigit NoDigit (number_agrees largest)
-    (λ at v. agrees_unless (Reading (AtomMissing site.rule 0)) tt (λ text m. Ok (v, m)) (λ c n piece. (n ≡ v) × (piece ≡ [])) NoDigit (agrees_done v NoDigit) (leb site.atoms v))
+    (agrees_then (number_agrees largest)
+    (λ at v. agrees_unless (Reading (AtomMissing site.rule 0)) tt (agrees_done v) (leb site.atoms v))
     (λ c v n piece rest h s. subst (λ p. NoDigit (p ++ rest)) (sym h.1.1) s))
   where
     to : (c : Care) (n : ℕ) (text : List ℕ) → Via (λ c v piece. Numeral c largest v piece) (Known site) c n text → Declared c site.atoms n text
     to c n text v =
         let f = v.parts in
-        let whole : text ≡ f.front = f.whole ∙ ap (λ t. f.front ++ t) f.second.1.1 ∙ append-nil f.front in
+        let whole : text ≡ f.front = grind (arith, f.whole, f.second.1.1, append-nil) in
         subst (λ k. Declared c site.atoms k text) (sym f.second.1.0)
         (record { spelt = subst (λ t. Numeral c largest v.value t) (sym whole) f.first; declared = kept_map c (leb-false site.atoms v.value) f.second.0 })
 
@@ -47,7 +46,7 @@ head_agrees site =
         record { value = n; parts = record { front = text; back = []; whole = sym (append-nil text); first = d.spelt; second = (kept_map c (lt-leb site.atoms n) d.declared, (refl, refl)) } }
 
 -- the number of a line and then the rest, which does not begin with a digit
-module _ {Y : Type 0} (expected : ℕ) (K : List ℕ → ℕ → Result (Y × ℕ) Fault) (G : Care → Y → List ℕ → Type 0) (Stop : List ℕ → Type 0) (a : Agrees K G Stop) (starts : (c : Care) (y : Y) (piece rest : List ℕ) → G c y piece → NoDigit (piece ++ rest)) where
+module _ {Y : Type 0} (expected : ℕ) {K : List ℕ → ℕ → Result (Y × ℕ) Fault} {G : Care → Y → List ℕ → Type 0} {Stop : List ℕ → Type 0} (a : Agrees K G Stop) (starts : (c : Care) (y : Y) (piece rest : List ℕ) → G c y piece → NoDigit (piece ++ rest)) where
   abbrev Next : ℕ → Care → Y → List ℕ → Type 0
   Next v c y piece = Kept c (eqb v expected ≡ true) × G c y piece
 
@@ -64,11 +63,7 @@ module _ {Y : Type 0} (expected : ℕ) (K : List ℕ → ℕ → Result (Y × �
       record { value = f.first.number; parts = record { front = f.front; back = f.back; whole = f.whole; first = f.first.spelt; second = (kept_map c (eq-eqb f.first.number expected) f.first.next, f.second) } }
 
   next_same : (text : List ℕ) (at : ℕ) (r : Result (ℕ × ℕ) Fault) → and_then r (λ p. cond (eqb p.0 expected) (K text p.1) (Err (Reading (Number at)))) ≡ and_then (and_then r (λ p. cond (eqb p.0 expected) (Ok p.1) (Err (Reading (Number at))))) (K text)
-  next_same text at (Ok p) = by_test (eqb p.0 expected)
-    where
-      by_test : (b : Bool) → cond b (K text p.1) (Err (Reading (Number at))) ≡ and_then (cond b (Ok p.1) (Err (Reading (Number at)))) (K text)
-      by_test true = refl
-      by_test false = refl
+  next_same text at (Ok p) = grind arith
   next_same text at (Err e) = refl
 
   -- a reader after a line's number agrees with its pieces after that number
@@ -76,8 +71,8 @@ module _ {Y : Type 0} (expected : ℕ) (K : List ℕ → ℕ → Result (Y × �
   numbered_then =
       agrees_same (λ text at. next_same text at (number_at text at largest))
       (agrees_as next_to next_from
-      (agrees_then (λ text at. number_at text at largest) (λ at v text m. cond (eqb v expected) (K text m) (Err (Reading (Number at)))) Spelt Next NoDigit Stop (number_agrees largest)
-      (λ at v. agrees_if (Reading (Number at)) tt K G Stop a (eqb v expected))
+      (agrees_then (number_agrees largest)
+      (λ at v. agrees_if (Reading (Number at)) tt a (eqb v expected))
       (λ c v y piece rest h s. starts c y piece rest h.1)))
 
 abbrev Kinds : Care → Bool → List ℕ → Type 0
@@ -87,9 +82,9 @@ Kinds c k piece = Followed (Exactly out_word) (λ p. (k ≡ false) × (p ≡ [])
 pub kind_agrees : Agrees (λ text at. reading_at text at) (λ c k piece. Exactly (cond k in_word out_word) piece) Any
 kind_agrees =
     agrees_as to from
-    (agrees_choice 111 (λ text at. and_then (pass_word out_word text at) (λ next. Ok (false, next))) (λ text at. and_then (pass_word in_word text at) (λ next. Ok (true, next))) _ _ Any
-    (word_then out_word (λ text at. Ok (false, at)) (λ c k p. (k ≡ false) × (p ≡ [])) Any (agrees_done false Any))
-    (word_then in_word (λ text at. Ok (true, at)) (λ c k p. (k ≡ true) × (p ≡ [])) Any (agrees_done true Any))
+    (agrees_choice 111
+    (word_then out_word (agrees_done false))
+    (word_then in_word (agrees_done true))
     (λ c k piece rest f. ap (is_byte 111) (first_of rest f))
     (λ c k piece rest f. ap (is_byte 111) (first_of rest f)))
   where
@@ -127,13 +122,11 @@ module _ (site : Site) where
 
   negatives_agree : (h : ℕ) (p : List ℕ) → Agrees (λ text at. and_then (pass_at 32 text at) (λ m. and_then (body_at text site (length p) m) (λ n. Ok (made h p n.0, n.1)))) (Negatives h p) Any
   negatives_agree h p =
-      byte_then 32 (λ text m. and_then (body_at text site (length p) m) (λ n. Ok (made h p n.0, n.1))) (Via Bodied (Last h p)) Any
-      (agrees_then (λ text at. body_at text site (length p) at) (λ at n text m. Ok (made h p n, m)) Bodied (Last h p) Any Any (body_agrees site (length p)) (λ at n. agrees_done (made h p n) Any) (λ c n r piece rest g s. tt))
+      byte_then 32 (agrees_then (body_agrees site (length p)) (λ at n. agrees_done (made h p n)) (λ c n r piece rest g s. tt))
 
   positives_agree : (h : ℕ) → Agrees (λ text at. and_then (pass_at 32 text at) (λ b. and_then (body_at text site 0 b) (λ p. and_then (pass_at 32 text p.1) (λ m. and_then (body_at text site (length p.0) m) (λ n. Ok (made h p.0 n.0, n.1)))))) (Positives h) Any
   positives_agree h =
-      byte_then 32 (λ text b. and_then (body_at text site 0 b) (λ p. and_then (pass_at 32 text p.1) (λ m. and_then (body_at text site (length p.0) m) (λ n. Ok (made h p.0 n.0, n.1))))) (Via Bodied (Negatives h)) Any
-      (agrees_then (λ text at. body_at text site 0 at) (λ at p text m. and_then (pass_at 32 text m) (λ k. and_then (body_at text site (length p) k) (λ n. Ok (made h p n.0, n.1)))) Bodied (Negatives h) Any Any (body_agrees site 0) (λ at p. negatives_agree h p) (λ c p r piece rest g s. tt))
+      byte_then 32 (agrees_then (body_agrees site 0) (λ at p. negatives_agree h p) (λ c p r piece rest g s. tt))
 
   parts_to : (c : Care) (r : Rule) (text : List ℕ) → Followed (Exactly space) (Via Headed Positives c r) text → Parts c site.atoms r text
   parts_to c r text f =
@@ -141,13 +134,8 @@ module _ (site : Site) where
       let g = h.parts.second in
       let p = g.second in
       let k = p.parts.second in
-      let n = k.second in
-      let body = ended n.parts in
-      let six : Followed (Exactly space) (Bodied c n.value) p.parts.back = onto k body in
-      let five : Followed (Bodied c p.value) (Followed (Exactly space) (Bodied c n.value)) g.back = onto p.parts six in
-      let four : Followed (Exactly space) (Followed (Bodied c p.value) (Followed (Exactly space) (Bodied c n.value))) h.parts.back = onto g five in
-      subst (λ x. Parts c site.atoms x text) (sym n.parts.second.0)
-      (onto f (onto h.parts four))
+      subst (λ x. Parts c site.atoms x text) (sym k.second.parts.second.0)
+      (onto f (onto h.parts (onto g (onto p.parts (onto k (ended k.second.parts))))))
 
   parts_from : (c : Care) (r : Rule) (text : List ℕ) → Parts c site.atoms r text → Followed (Exactly space) (Via Headed Positives c r) text
   parts_from c r text f =
@@ -156,15 +144,12 @@ module _ (site : Site) where
       let p = k.second in
       let j = p.second in
       let negatives : Via Bodied (Last r.head r.positives) c r j.back = record { value = r.negatives; parts = unended refl j.second } in
-      let positives : Via Bodied (Negatives r.head) c r k.back = record { value = r.positives; parts = onto p (onto j negatives) } in
-      let head : Via Headed Positives c r f.back = record { value = r.head; parts = onto g (onto k positives) } in
-      onto f head
+      onto f (record { value = r.head; parts = onto g (onto k (record { value = r.positives; parts = onto p (onto j negatives) })) })
 
   -- reading a rule is reading its head and its two lists, each after a space
   pub rule_agrees : Agrees (λ text at. rule_at text site at) (λ c r text. Parts c site.atoms r text) Any
   unfolding rule_at
   rule_agrees =
       agrees_as parts_to parts_from
-      (byte_then 32 _ (Via Headed Positives) Any
-      (agrees_then (λ text at. head_at text site at) (λ at h text m. and_then (pass_at 32 text m) (λ b. and_then (body_at text site 0 b) (λ p. and_then (pass_at 32 text p.1) (λ k. and_then (body_at text site (length p.0) k) (λ n. Ok (made h p.0 n.0, n.1)))))) Headed Positives NoDigit Any (head_agrees site) (λ at h. positives_agree h)
+      (byte_then 32 (agrees_then (head_agrees site) (λ at h. positives_agree h)
       (λ c h r piece rest g s. ap digit_of (first_of rest g))))

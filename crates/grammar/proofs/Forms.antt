@@ -1,5 +1,5 @@
 -- The forms agree with their grammar, each from the byte after its bracket on.
-use Rattle.std.proofs.Common.{◌≡◌, ℕ, ◌<◌, Bool, true, false, cond, leb, List, [], ◌∷◌, ◌++◌, Some, None, Ok, codes, Result, refl, ap, ◌∙◌}
+use Rattle.std.proofs.Common.{◌≡◌, ℕ, ◌<◌, Bool, true, false, cond, leb, List, [], ◌∷◌, ◌++◌, Some, None, Ok, codes, Result, refl, ap, ◌∙◌, arith}
 use Rattle.std.proofs.lemmas.Bool.{leb-false, lt-leb}
 use Rattle.books.specs.Meaning.{Atom, Rule}
 use Rattle.books.specs.declared.fault.ReadFault.TheVariants.{TooMany}
@@ -8,7 +8,6 @@ use Rattle.books.specs.declared.fault.Fault.TheVariants.{Reading}
 use Rattle.text.specs.Bytes.{and_then, pass_at}
 use Rattle.text.specs.Forms.{Line, atom_line, rule_line, end_line, closing, reading_at, in_word, out_word}
 use Rattle.text.specs.Numbers.{digit_of}
-use Rattle.text.specs.Rules.{rule_at}
 use Rattle.text.specs.Spelt.{kind_text}
 use Rattle.text.specs.Words.{pass_word}
 use Rattle.text.specs.declared.counts.Counts.{Counts}
@@ -32,7 +31,7 @@ module _ (S : Type 0) (room : Counts) (atoms rules : ℕ) where
   Closed line c y = Followed (Exactly closing) (λ p. (y ≡ line) × (p ≡ []))
 
   closed_agrees : (line : Line S) → Agrees (λ text at. and_then (pass_word closing text at) (λ next. Ok (line, next))) (Closed line) Any
-  closed_agrees line = word_then closing (λ text at. Ok (line, at)) (λ c y p. (y ≡ line) × (p ≡ [])) Any (agrees_done line Any)
+  closed_agrees line = word_then closing (agrees_done line)
 
   closed_stops : (line : Line S) (c : Care) (y : Line S) (piece rest : List ℕ) → Closed line c y piece → NoDigit (piece ++ rest)
   closed_stops line c y piece rest f = starts 41 (10 ∷ []) (λ p. (y ≡ line) × (p ≡ [])) piece rest refl f
@@ -62,9 +61,9 @@ module _ (S : Type 0) (room : Counts) (atoms rules : ℕ) where
   pub rule_rest_agrees : (at : ℕ) → Agrees (rule_rest S room atoms rules at) RuleRest Any
   rule_rest_agrees at =
       agrees_as rule_to rule_from
-      (agrees_unless (Reading (TooMany at)) tt _ (λ c y. Followed (Numbered c rules) (RuleSaid c y)) Any
-      (numbered_then rules (λ text b. and_then (rule_at text (record { form = at; rule = rules; atoms = atoms }) b) (λ p. and_then (pass_word closing text p.1) (λ next. Ok (rule_line (Some p.0), next)))) RuleSaid Any
-      (agrees_then (λ text b. rule_at text (record { form = at; rule = rules; atoms = atoms }) b) (λ b r text m. and_then (pass_word closing text m) (λ next. Ok (rule_line (Some r), next))) (λ c r text. Parts c atoms r text) (λ r. Closed (rule_line (Some r))) Any Any (rule_agrees (record { form = at; rule = rules; atoms = atoms })) (λ b r. closed_agrees (rule_line (Some r))) (λ c r y piece rest g s. tt))
+      (agrees_unless (Reading (TooMany at)) tt
+      (numbered_then rules
+      (agrees_then (rule_agrees (record { form = at; rule = rules; atoms = atoms })) (λ b r. closed_agrees (rule_line (Some r))) (λ c r y piece rest g s. tt))
       said_stops)
       (leb room.rules rules))
 
@@ -84,8 +83,8 @@ module _ (S : Type 0) (room : Counts) (atoms rules : ℕ) where
   pub void_rest_agrees : (at : ℕ) → Agrees (void_rest S room atoms rules at) VoidRest Any
   void_rest_agrees at =
       agrees_as void_to void_from
-      (agrees_unless (Reading (TooMany at)) tt _ (λ c y. Followed (Numbered c rules) (Closed (rule_line None) c y)) Any
-      (numbered_then rules (λ text b. and_then (pass_word closing text b) (λ next. Ok (rule_line None, next))) (Closed (rule_line None)) Any (closed_agrees (rule_line None)) (closed_stops (rule_line None)))
+      (agrees_unless (Reading (TooMany at)) tt
+      (numbered_then rules (closed_agrees (rule_line None)) (closed_stops (rule_line None)))
       (leb room.rules rules))
 
   -- the end, from the byte after its bracket on
@@ -96,12 +95,11 @@ module _ (S : Type 0) (room : Counts) (atoms rules : ℕ) where
   pub end_rest_agrees : Agrees (end_rest S) EndRest Any
   end_rest_agrees =
       agrees_as to from
-      (word_then end_word (λ text a. and_then (pass_at 10 text a) (λ next. Ok (end_line, next))) (λ c y. Followed (Exactly (10 ∷ [])) (λ p. (y ≡ end_line) × (p ≡ []))) Any
-      (byte_then 10 (λ text m. Ok (end_line, m)) (λ c y p. (y ≡ end_line) × (p ≡ [])) Any (agrees_done end_line Any)))
+      (word_then end_word (byte_then 10 (agrees_done end_line)))
     where
       to : (c : Care) (y : Line S) (text : List ℕ) → Followed (Exactly end_word) (Followed (Exactly (10 ∷ [])) (λ p. (y ≡ end_line) × (p ≡ []))) text → EndRest c y text
       to c y text f =
-          (f.second.second.0, f.whole ∙ ap (λ t. t ++ f.back) f.first ∙ ap (λ t. end_word ++ t) (ended f.second))
+          (f.second.second.0, grind (arith, f.whole, f.first, ended f.second))
 
       from : (c : Care) (y : Line S) (text : List ℕ) → EndRest c y text → Followed (Exactly end_word) (Followed (Exactly (10 ∷ [])) (λ p. (y ≡ end_line) × (p ≡ []))) text
       from c y text (e, t) =
@@ -124,23 +122,22 @@ module _ (S : Type 0) (room : Counts) (atoms rules : ℕ) where
 
     stamped_agrees : (k : Bool) → Agrees (λ text m. and_then (stamp_at text m) (λ s. and_then (pass_word closing text s.1) (λ next. Ok (atom_line (record { stamp = s.0; reading = k }), next)))) (Stamped k) Any
     stamped_agrees k =
-        agrees_then stamp_at (λ at s text m. and_then (pass_word closing text m) (λ next. Ok (atom_line (record { stamp = s; reading = k }), next))) spells (λ s. Closed (atom_line (record { stamp = s; reading = k }))) NoDigit Any stamps
+        agrees_then stamps
         (λ at s. closed_agrees (atom_line (record { stamp = s; reading = k })))
         (λ c s y piece rest g x. closed_stops (atom_line (record { stamp = s; reading = k })) c y piece rest g)
 
     said_agrees : Agrees (λ text b. and_then (pass_at 32 text b) (λ c. and_then (reading_at text c) (λ k. and_then (stamp_at text k.1) (λ s. and_then (pass_word closing text s.1) (λ next. Ok (atom_line (record { stamp = s.0; reading = k.0 }), next)))))) AtomSaid Any
     said_agrees =
-        byte_then 32 (λ text c. and_then (reading_at text c) (λ k. and_then (stamp_at text k.1) (λ s. and_then (pass_word closing text s.1) (λ next. Ok (atom_line (record { stamp = s.0; reading = k.0 }), next))))) (Via Kinded Stamped) Any
-        (agrees_then (λ text at. reading_at text at) (λ at k text m. and_then (stamp_at text m) (λ s. and_then (pass_word closing text s.1) (λ next. Ok (atom_line (record { stamp = s.0; reading = k }), next)))) Kinded Stamped Any Any kind_agrees (λ at k. stamped_agrees k) (λ c k y piece rest g s. tt))
+        byte_then 32 (agrees_then kind_agrees (λ at k. stamped_agrees k) (λ c k y piece rest g s. tt))
 
     -- a space and the kind's word
-    kind_to : (A : List ℕ → Type 0) (k : Bool) (piece : List ℕ) → Followed (Exactly (32 ∷ [])) (Followed (Exactly (cond k in_word out_word)) A) piece → Followed (Exactly (kind_text k)) A piece
-    kind_to A true piece f = word_to 32 in_word f
-    kind_to A false piece f = word_to 32 out_word f
+    kind_to : {A : List ℕ → Type 0} (k : Bool) {piece : List ℕ} → Followed (Exactly (32 ∷ [])) (Followed (Exactly (cond k in_word out_word)) A) piece → Followed (Exactly (kind_text k)) A piece
+    kind_to true f = word_to 32 in_word f
+    kind_to false f = word_to 32 out_word f
 
-    kind_from : (A : List ℕ → Type 0) (k : Bool) (piece : List ℕ) → Followed (Exactly (kind_text k)) A piece → Followed (Exactly (32 ∷ [])) (Followed (Exactly (cond k in_word out_word)) A) piece
-    kind_from A true piece f = word_from 32 in_word f
-    kind_from A false piece f = word_from 32 out_word f
+    kind_from : {A : List ℕ → Type 0} (k : Bool) {piece : List ℕ} → Followed (Exactly (kind_text k)) A piece → Followed (Exactly (32 ∷ [])) (Followed (Exactly (cond k in_word out_word)) A) piece
+    kind_from true f = word_from 32 in_word f
+    kind_from false f = word_from 32 out_word f
 
     atom_to : (c : Care) (y : Line S) (text : List ℕ) → Kept c (leb room.atoms atoms ≡ false) × Followed (Numbered c atoms) (AtomSaid c y) text → AtomRest c y text
     atom_to c y text (k, f) =
@@ -149,14 +146,11 @@ module _ (S : Type 0) (room : Counts) (atoms rules : ℕ) where
         let w = v.parts.second in
         let h = w.parts in
         let a : Atom S = record { stamp = w.value; reading = v.value } in
-        let stamp : Followed (spells c w.value) (Exactly closing) v.parts.back = onto h (ended h.second) in
-        let kind : Followed (Exactly (cond v.value in_word out_word)) (Followed (spells c w.value) (Exactly closing)) g.back = onto v.parts stamp in
-        let spaced = kind_to (Followed (spells c w.value) (Exactly closing)) v.value f.back (onto g kind) in
-        (a, h.second.second.0, kept_map c (leb-false room.atoms atoms) k, onto f spaced)
+        (a, h.second.second.0, kept_map c (leb-false room.atoms atoms) k, onto f (kind_to v.value (onto g (onto v.parts (onto h (ended h.second))))))
 
     atom_from : (c : Care) (y : Line S) (text : List ℕ) → AtomRest c y text → Kept c (leb room.atoms atoms ≡ false) × Followed (Numbered c atoms) (AtomSaid c y) text
     atom_from c y text (a, e, k, f) =
-        let g = kind_from (Followed (spells c a.stamp) (Exactly closing)) a.reading f.back f.second in
+        let g = kind_from a.reading f.second in
         let h = g.second in
         let i = h.second in
         let stamp : Stamped a.reading c y h.back = record { value = a.stamp; parts = onto i (unended e i.second) } in
@@ -167,7 +161,7 @@ module _ (S : Type 0) (room : Counts) (atoms rules : ℕ) where
     pub atom_rest_agrees : (at : ℕ) → Agrees (atom_rest S room atoms rules stamp_at at) AtomRest Any
     atom_rest_agrees at =
         agrees_as atom_to atom_from
-        (agrees_unless (Reading (TooMany at)) tt _ (λ c y. Followed (Numbered c atoms) (AtomSaid c y)) Any
-        (numbered_then atoms (λ text b. and_then (pass_at 32 text b) (λ c. and_then (reading_at text c) (λ k. and_then (stamp_at text k.1) (λ s. and_then (pass_word closing text s.1) (λ next. Ok (atom_line (record { stamp = s.0; reading = k.0 }), next)))))) AtomSaid Any said_agrees
+        (agrees_unless (Reading (TooMany at)) tt
+        (numbered_then atoms said_agrees
         (λ c y piece rest g. starts 32 [] (Via Kinded Stamped c y) piece rest refl g))
         (leb room.atoms atoms))

@@ -66,7 +66,7 @@ as_it_is c = record { kept = λ P h. h; plainly = λ P h. h }
 -- a piece of the one degree is a piece of the other
 module _ {c d : Care} (e : Eases c d) where
   -- a number, at any limit that it is within
-  pub numeral_under : (limit other n : ℕ) (text : List ℕ) → Kept d (n ≤ other) → Numeral c limit n text → Numeral d other n text
+  numeral_under : (limit other n : ℕ) (text : List ℕ) → Kept d (n ≤ other) → Numeral c limit n text → Numeral d other n text
   numeral_under limit other n text k h = record { digits = h.digits; some = h.some; few = h.few; means = h.means; within = k; plainly = e.plainly _ h.plainly }
 
   -- a number, at its own limit

@@ -8,7 +8,6 @@ use Rattle.text.specs.Reads.{room_of}
 use Rattle.text.specs.declared.counts.Counts.{Counts}
 use Rattle.writing.specs.Replies.{checked_text, canonical_at}
 use Rattle.writing.specs.Writes.{book_gap, write_answer}
-use Rattle.grammar.specs.Agreement.{NoDigit}
 use Rattle.grammar.specs.Notations.{Notation, ticks, routes, pairs}
 use Rattle.grammar.specs.Pieces.{kept}
 use Rattle.grammar.specs.Theorems.{read_as, written_of, ReadingIsTheGrammar, WrittenIsReadBack, AcceptedComesBack, CanonicalIsUnchanged, DegreesNest, AnswerIsItsOwn, RefusedAtTheFirstByte}
@@ -110,9 +109,7 @@ module _ {S : Type 0} (n : Notation S) (l : Lawful n) where
 
   -- where a book is checked and written, its text is what is answered
   written_answer : (m : Meaning S) (checked : Result (Unit {0}) Fault) (written : Result ℕ Fault) (answer : List ℕ) → and_then checked (λ _. and_then written (λ _. Ok (written_of n m))) ≡ Ok answer → answer ≡ written_of n m
-  written_answer m (Ok u) (Ok k) answer e = grind arith
-  written_answer m (Ok u) (Err f) answer e = absurd (grind arith)
-  written_answer m (Err f) written answer e = absurd (grind arith)
+  written_answer m checked written answer e = grind arith
 
   -- what is answered to a text is answered to that answer
   pub answer_is_its_own : AnswerIsItsOwn n

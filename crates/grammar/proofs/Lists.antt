@@ -12,7 +12,7 @@ use Rattle.grammar.specs.Pieces.{Care, shape, Kept, Exactly, Followed, Numeral, 
 use Rattle.grammar.specs.Agreement.{AtByte, Agrees, NoDigit}
 use Rattle.grammar.proofs.Agreeing.{Any, Via, agrees_same, agrees_as, agrees_then, agrees_done, byte_then, then_then}
 use Rattle.grammar.proofs.Choosing.{agrees_choice, agrees_unless, agrees_never}
-use Rattle.grammar.proofs.Following.{followed_map, regroup, ungroup, ended, unended, first_of, onto}
+use Rattle.grammar.proofs.Following.{followed_map, regroup, ungroup, ended, unended, first_of, onto, under}
 use Rattle.grammar.proofs.Keeping.{kept_map, kept_fact, kept_three, spaced_eased, to_shape}
 use Rattle.grammar.proofs.Numbers.{number_agrees}
 use Rattle.text.specs.Lists.{open_at, onward_at, empty_if}
@@ -20,7 +20,7 @@ use Rattle.text.specs.Turns.{turns, tries}
 use Rattle.grammar.proofs.Turning.{tries_first, tries_stay, onward_same, open_same}
 
 -- a number begins with a digit, which is no bracket
-pub starts_digit : (c : Care) (limit n : ℕ) (text rest : List ℕ) → Numeral c limit n text → is_byte 41 (slice_get (text ++ rest) 0) ≡ false
+starts_digit : (c : Care) (limit n : ℕ) (text rest : List ℕ) → Numeral c limit n text → is_byte 41 (slice_get (text ++ rest) 0) ≡ false
 starts_digit c limit n [] rest h = absurd (omega (arith, h.some))
 starts_digit c limit n (b ∷ text) rest h = ne_eqb b 41 (λ e. not_digit b e h.digits.0)
   where
@@ -146,13 +146,10 @@ module _ {A : Type 0} (w : Walk A) where
   tail_on : (c : Care) (s t : A) (text : List ℕ) (v : ℕ) (f : Followed (Numbers c v) (Tested s v c t) text) → Onward (w.add s v) c t f.back → Tail c s t text
   tail_on c s t text v f (inl on) =
       let tail = on.second in
-      let spaced = Spaced c w.limit (tail.head ∷ tail.rest) in
-      let inner : Followed (Exactly (32 ∷ [])) (Followed spaced (Exactly (41 ∷ []))) f.back = onto on tail.parts in
-      let outer : Followed (Numbers c v) (Followed (Followed (Exactly (32 ∷ [])) spaced) (Exactly (41 ∷ []))) text = onto f (regroup inner) in
       record {
         head = v;
         rest = tail.head ∷ tail.rest;
-        parts = regroup outer;
+        parts = regroup (onto f (regroup (onto on tail.parts)));
         passes = kept_three (w.first s v ≡ false) (w.second s v ≡ false) (Passes (w.add s v) (tail.head ∷ tail.rest)) c f.second.0 f.second.1.0 tail.passes;
         means = tail.means;
       }
@@ -191,7 +188,7 @@ module _ {A : Type 0} (w : Walk A) where
       }
 
   onward_shaped : (c : Care) (s t : A) (piece : List ℕ) → Onward s c t piece → Onward s shape t piece
-  onward_shaped c s t piece (inl f) = inl (followed_map (λ p e. e) (tail_shaped c s t) f)
+  onward_shaped c s t piece (inl f) = inl (under (tail_shaped c s t) f)
   onward_shaped c s t piece (inr f) = inr f
 
   tested_shaped : (s : A) (v : ℕ) (c : Care) (t : A) (piece : List ℕ) → Tested s v c t piece → Tested s v shape t piece
@@ -232,7 +229,7 @@ module _ {A : Type 0} (w : Walk A) where
       by_numbers : (ns : List ℕ) → Listed c w.limit ns text → Kept c (Passes s ns) → t ≡ adds s ns → Followed (Exactly (40 ∷ [])) (Open s c t) text
       by_numbers [] f k e =
           let g = f.second in
-          let close : f.back ≡ 41 ∷ [] = g.whole ∙ ap (λ p. p ++ g.back) g.first ∙ g.second in
+          let close : f.back ≡ 41 ∷ [] = grind (arith, g.whole, g.first, g.second) in
           onto f (inl (unended e close))
       by_numbers (n ∷ ns) f k e =
           onto f (inr (record { head = n; rest = ns; parts = f.second; passes = k; means = e }))
@@ -247,9 +244,9 @@ module _ {A : Type 0} (w : Walk A) where
   module _ (ends : Ends w) where
     onward_agrees : (next : List ℕ → ℕ → Result (A × ℕ) Fault) (s : A) → Agrees next (λ c t. Tail c s t) Any → Agrees (onward next s) (Onward s) Any
     onward_agrees next s a =
-        agrees_choice 32 (λ text at. and_then (pass_at 32 text at) (next text)) (λ text at. and_then (pass_at 41 text at) (λ m. Ok (s, m))) _ _ Any
-        (byte_then 32 next (λ c t. Tail c s t) Any a)
-        (byte_then 41 (λ text at. Ok (s, at)) (λ c t p. (t ≡ s) × (p ≡ [])) Any (agrees_done s Any))
+        agrees_choice 32
+        (byte_then 32 a)
+        (byte_then 41 (agrees_done s))
         (λ c t piece rest f. ap (is_byte 32) (first_of rest f))
         (λ c t piece rest f. ap (is_byte 32) (first_of rest f))
 
@@ -257,17 +254,17 @@ module _ {A : Type 0} (w : Walk A) where
     refused_agrees : (next : List ℕ → ℕ → Result (A × ℕ) Fault) (at : ℕ) (s : A) (v : ℕ) → (w.first s v ≡ true) ⊎ (w.second s v ≡ true) → Agrees (tested next at s v) (Tested s v) Any
     refused_agrees next at s v (inl e) =
         agrees_same (λ text place. ap (λ b. cond b (Err (w.first_fault at s v)) (cond (w.second s v) (Err (w.second_fault at s v)) (onward next (w.add s v) text place))) (sym e))
-        (agrees_never (w.first_fault at s v) (ends.first_named at s v) (Tested s v) Any (tested_shaped s v) (tested_sample s v) (λ c t piece h. kept_map c (λ f. both_ways (w.first s v) f e) h.0))
+        (agrees_never (w.first_fault at s v) (ends.first_named at s v) (tested_shaped s v) (tested_sample s v) (λ c t piece h. kept_map c (λ f. both_ways (w.first s v) f e) h.0))
     refused_agrees next at s v (inr e) =
-        agrees_unless (w.first_fault at s v) (ends.first_named at s v) (λ text place. cond (w.second s v) (Err (w.second_fault at s v)) (onward next (w.add s v) text place)) (λ c t piece. Kept c (w.second s v ≡ false) × Onward (w.add s v) c t piece) Any
+        agrees_unless (w.first_fault at s v) (ends.first_named at s v)
         (agrees_same (λ text place. ap (λ b. cond b (Err (w.second_fault at s v)) (onward next (w.add s v) text place)) (sym e))
-        (agrees_never (w.second_fault at s v) (ends.second_named at s v) (λ c t piece. Kept c (w.second s v ≡ false) × Onward (w.add s v) c t piece) Any (λ c t piece h. (tt, onward_shaped c (w.add s v) t piece h.1)) (let x = tested_sample s v in (x.0, x.1, x.2.1)) (λ c t piece h. kept_map c (λ f. both_ways (w.second s v) f e) h.0)))
+        (agrees_never (w.second_fault at s v) (ends.second_named at s v) (λ c t piece h. (tt, onward_shaped c (w.add s v) t piece h.1)) (let x = tested_sample s v in (x.0, x.1, x.2.1)) (λ c t piece h. kept_map c (λ f. both_ways (w.second s v) f e) h.0)))
         (w.first s v)
 
     tested_agrees : (next : List ℕ → ℕ → Result (A × ℕ) Fault) (at : ℕ) (s : A) (v : ℕ) → Agrees next (λ c t. Tail c (w.add s v) t) Any → Agrees (tested next at s v) (Tested s v) Any
     tested_agrees next at s v a =
-        agrees_unless (w.first_fault at s v) (ends.first_named at s v) (λ text place. cond (w.second s v) (Err (w.second_fault at s v)) (onward next (w.add s v) text place)) (λ c t piece. Kept c (w.second s v ≡ false) × Onward (w.add s v) c t piece) Any
-        (agrees_unless (w.second_fault at s v) (ends.second_named at s v) (onward next (w.add s v)) (Onward (w.add s v)) Any (onward_agrees next (w.add s v) a) (w.second s v))
+        agrees_unless (w.first_fault at s v) (ends.first_named at s v)
+        (agrees_unless (w.second_fault at s v) (ends.second_named at s v) (onward_agrees next (w.add s v) a) (w.second s v))
         (w.first s v)
 
     by_test : (next : List ℕ → ℕ → Result (A × ℕ) Fault) (at : ℕ) (s : A) (v : ℕ) (b : Bool) → w.second s v ≡ b → (w.second s v ≡ false → Agrees next (λ c t. Tail c (w.add s v) t) Any) → Agrees (tested next at s v) (Tested s v) Any
@@ -278,7 +275,7 @@ module _ {A : Type 0} (w : Walk A) where
     unfolding run
     turns_agree n s a =
         agrees_as (λ c t text. tail_to c s t text) (λ c t text. tail_from c s t text)
-        (agrees_then (λ text at. number_at text at w.limit) (λ at v. tested (run n (w.add s v)) at s v) Numbers (Tested s) NoDigit Any (number_agrees w.limit) a (λ c v t piece rest g x. tested_stops c s v t piece rest g))
+        (agrees_then (number_agrees w.limit) a (λ c v t piece rest g x. tested_stops c s v t piece rest g))
 
     run_agrees : (n : ℕ) (s : A) → ends.Enough (suc n) s → Agrees (run (suc n) s) (λ c t. Tail c s t) Any
     run_agrees zero s h = turns_agree zero s (λ at v. refused_agrees (run zero (w.add s v)) at s v (ends.last s v h))
@@ -288,9 +285,9 @@ module _ {A : Type 0} (w : Walk A) where
     pub list_agrees : (n : ℕ) (s : A) → ends.Enough (suc n) s → Agrees (listed n s) (λ c t. Bracketed c s t) Any
     list_agrees n s h =
         agrees_as (λ c t text. bracketed_to c s t text) (λ c t text. bracketed_from c s t text)
-        (byte_then 40 _ _ Any
-        (agrees_choice 41 (λ text at. and_then (pass_at 41 text at) (λ k. Ok (s, k))) (run (suc n) s) _ _ Any
-        (byte_then 41 (λ text at. Ok (s, at)) (λ c t p. (t ≡ s) × (p ≡ [])) Any (agrees_done s Any))
+        (byte_then 40
+        (agrees_choice 41
+        (byte_then 41 (agrees_done s))
         (run_agrees n s h)
         (λ c t piece rest f. ap (is_byte 41) (first_of rest f))
         (λ c t piece rest tail. tail_no_bracket c s t piece rest tail)))

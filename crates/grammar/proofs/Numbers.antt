@@ -3,7 +3,7 @@ use Rattle.std.proofs.Common.{◌≡◌, ℕ, zero, suc, ◌+◌, ◌-◌, ◌*�
 use Rattle.std.proofs.lemmas.Int.Digits.{digits_value_push, digits_push}
 use Rattle.std.proofs.lemmas.List.{append-nil, length_push}
 use Rattle.std.proofs.lemmas.Str.Parse.{digit_from_value, numerals_by_value, tells_digits, digits_value_short}
-use Rattle.std.proofs.lemmas.Bool.{le-ltb, eqb-true, eqb-false, ltb-true, ltb-false, leb-true, and_parts, cases_Bool, cases_lt}
+use Rattle.std.proofs.lemmas.Bool.{eqb-true, eqb-false, ltb-true, ltb-false, leb-true, and_parts, cases_Bool, cases_lt}
 use Rattle.std.specs.List.{slice_get}
 use Rattle.std.specs.Str.Parse.{AllDigits, digits_value}
 use Rattle.std.specs.Char.{digit_value}
@@ -78,7 +78,7 @@ run_more text at k run (Some d) e =
       between = between_join text at run.next (run.next + 1) run.piece (b ∷ []) run.between (between_one text run.next b is);
       digits = digits_push 10 run.piece b run.digits small;
       most = omega arith;
-      found = ap (one_more text) run.found ∙ ap (grown (digits_value 10 run.piece, run.next)) e ∙ ap (λ (v : ℕ). (v, run.next + 1)) grows;
+      found = grind (arith, run.found, e, grows);
       ended = λ l. let z = run.ended (omega arith) in absurd (grind arith);
     }
 
@@ -186,7 +186,7 @@ number_run text at limit c n piece rest g stop e =
     let ds = run text at 10 in
     let ended : length ds.piece < length piece → NoDigit (drop ds.next text) = λ l. ap digit_of (sym (slice_get_front text ds.next)) ∙ ds.ended (omega arith) in
     let same = same_run ds.piece piece (drop ds.next text) rest ds.digits g.digits (sym ds.between.stands ∙ e) ended stop in
-    ds.found ∙ ap (λ (k : ℕ). (digits_value 10 ds.piece, k)) ds.between.place ∙ ap (λ (t : List ℕ). (digits_value 10 t, at + length t)) same ∙ ap (λ (v : ℕ). (v, at + length piece)) g.means
+    grind (arith, ds.found, ds.between.place, same, g.means)
 
 -- a number over the limit keeps the shape alone
 over_shape : (c : Care) (limit n : ℕ) → limit < n → Kept c (n ≤ limit) → ShapeOnly c
@@ -198,7 +198,7 @@ module _ (text : List ℕ) (at limit : ℕ) (c : Care) (n : ℕ) (piece rest : L
   reads_by : (r : Result (ℕ × ℕ) Fault) → Way text at limit (n, at + length piece) r → Reads c r n (at + length piece)
   reads_by r (none h) = absurd (omega arith)
   reads_by r (more d h) =
-      let after : digit_at text (at + length piece) ≡ None = ap digit_of (slice_get_front text (at + length piece) ∙ ap (λ t. slice_get t 0) (drop_past text at piece rest e)) ∙ stop in
+      let after : digit_at text (at + length piece) ≡ None = grind (arith, slice_get_front text (at + length piece), drop_past text at piece rest e, stop) in
       absurd (grind arith)
   reads_by r (over l) = inr (over_shape c limit n l g.within, (Reading (Number at), refl, tt))
   reads_by r (within h k l) = inl refl
@@ -224,12 +224,6 @@ number_agrees limit =
 abbrev pub unlimited : ℕ
 unlimited = 9999999999
 
-limited_by : (at limit : ℕ) (p : ℕ × ℕ) (empty longer : Result (ℕ × ℕ) Fault) (a b : Bool) → and_then empty (λ q. cond (ltb limit q.0) (Err (Reading (Number at))) (Ok q)) ≡ empty → and_then longer (λ q. cond (ltb limit q.0) (Err (Reading (Number at))) (Ok q)) ≡ longer → ltb unlimited p.0 ≡ false
-    → cond a empty (cond b longer (cond (ltb limit p.0) (Err (Reading (Number at))) (Ok p))) ≡ and_then (cond a empty (cond b longer (cond (ltb unlimited p.0) (Err (Reading (Number at))) (Ok p)))) (λ q. cond (ltb limit q.0) (Err (Reading (Number at))) (Ok q))
-limited_by at limit p empty longer true b n m e = sym n
-limited_by at limit p empty longer false true n m e = sym m
-limited_by at limit p empty longer false false n m e = ap (λ t. and_then (cond t (Err (Reading (Number at))) (Ok p)) (λ q. cond (ltb limit q.0) (Err (Reading (Number at))) (Ok q))) (sym e)
-
 -- a limit is a test of what is read without it
 pub number_limited : (text : List ℕ) (at limit : ℕ) → number_at text at limit ≡ and_then (number_at text at unlimited) (λ q. cond (ltb limit q.0) (Err (Reading (Number at))) (Ok q))
 unfolding number_at
@@ -239,4 +233,4 @@ number_limited text at limit =
     let small : digits_value 10 r.piece < 10 ^ 10 = digits_value_short (numerals_by_value (AllDigits 10) tells_digits) r.piece 10 r.digits r.most in
     let same : p.0 ≡ digits_value 10 r.piece = ap (λ (q : ℕ × ℕ). q.0) r.found in
     let low : p.0 ≤ unlimited = omega (arith, small, same) in
-    limited_by at limit p (wrong_at at) (wrong_at p.1) (eqb p.1 at) (is_some (digit_at text p.1)) refl refl (le-ltb unlimited p.0 low)
+    grind (arith, nat_tests, low)

@@ -1,6 +1,5 @@
 -- Reading on from a stage to the end form, and its agreement with what remains of the text.
-use Rattle.std.proofs.Common.{◌≡◌, ℕ, zero, suc, ◌+◌, ◌<◌, List, [], ◌∷◌, ◌++◌, length, Ok, Err, Option, Result, sym, refl, ap, ◌∙◌, subst, arith}
-use Rattle.std.proofs.lemmas.List.{append-nil}
+use Rattle.std.proofs.Common.{◌≡◌, ℕ, zero, suc, ◌+◌, ◌<◌, List, [], ◌∷◌, length, Ok, Err, Option, Result, sym, refl, subst, arith}
 use Rattle.books.specs.Meaning.{Rule, Atom, Meaning}
 use Rattle.books.specs.declared.fault.ReadFault.TheVariants.{Number}
 use Rattle.books.specs.declared.fault.Fault.{Fault}
@@ -16,19 +15,16 @@ use Rattle.grammar.proofs.Agreeing.{Any, Via, agrees_as, agrees_then, agrees_don
 use Rattle.grammar.proofs.Choosing.{agrees_never}
 use Rattle.grammar.proofs.Lines.{FormAt, Going, reads_form, FormsAgree}
 use Rattle.grammar.proofs.Rests.{bare, Rest, rest_sample}
-use Rattle.grammar.proofs.Following.{onto}
+use Rattle.grammar.proofs.Following.{onto, ended, unended}
 use Rattle.grammar.specs.Notations.{Notation}
 
 -- what is read, changed
-agrees_map : {X Y : Type 0} (f : X → Y) (P : List ℕ → ℕ → Result (X × ℕ) Fault) (G : Care → X → List ℕ → Type 0) → Agrees P G Any → Agrees (λ text at. and_then (P text at) (λ p. Ok (f p.0, p.1))) (λ c y piece. (x : X) × (y ≡ f x) × G c x piece) Any
-agrees_map f P G a =
+agrees_map : {X Y : Type 0} (f : X → Y) {P : List ℕ → ℕ → Result (X × ℕ) Fault} {G : Care → X → List ℕ → Type 0} → Agrees P G Any → Agrees (λ text at. and_then (P text at) (λ p. Ok (f p.0, p.1))) (λ c y piece. (x : X) × (y ≡ f x) × G c x piece) Any
+agrees_map f {P} {G} a =
     agrees_as
-    (λ c y piece v.
-    let parts = v.parts in
-    let same : parts.front ≡ piece = sym (parts.whole ∙ ap (λ t. parts.front ++ t) parts.second.1 ∙ append-nil parts.front) in
-    (v.value, parts.second.0, subst (G c v.value) same parts.first))
-    (λ c y piece h. record { value = h.0; parts = record { front = piece; back = []; whole = sym (append-nil piece); first = h.2; second = (h.1, refl) } })
-    (agrees_then P (λ at x text next. Ok (f x, next)) G (λ x c y piece. (y ≡ f x) × (piece ≡ [])) Any Any a (λ at x. agrees_done (f x) Any) (λ c x y piece rest h s. tt))
+    (λ c y piece v. (v.value, v.parts.second.0, ended v.parts))
+    (λ c y piece h. record { value = h.0; parts = unended h.1 h.2 })
+    (agrees_then a (λ at x. agrees_done (f x)) (λ c x y piece rest h s. tt))
 
 module _ {S : Type 0} where
   -- a book with one more atom in front
@@ -76,34 +72,30 @@ module _ {S : Type 0} (kind : Notation S) (room : Counts) where
   late_atoms a r c [] os piece h = h
   late_atoms a r c (x ∷ xs) os piece h = absurd h
 
-  ended : (a r : ℕ) (c : Care) (stage : Stage) (m : Meaning S) (front back piece : List ℕ) → piece ≡ front ++ back → rest stage a r c bare front → m ≡ bare → back ≡ [] → rest stage a r c m piece
-  ended a r c stage m front back piece e h k n =
-      let same : front ≡ piece = sym (e ∙ ap (λ t. front ++ t) n ∙ append-nil front) in
-      subst (λ b. rest stage a r c b piece) (sym k) (subst (rest stage a r c bare) same h)
-
   module _ (next : Stage → ℕ → ℕ → Care → Meaning S → List ℕ → Type 0) (known : (stage : Stage) (a r : ℕ) (c : Care) (m : Meaning S) (piece : List ℕ) → next stage a r c m piece → rest stage a r c m piece) where
     -- a form, and what remains after it
-    one_rest : (stage : Stage) (line : Line S) (a r : ℕ) (c : Care) (m : Meaning S) (front back piece : List ℕ) → piece ≡ front ++ back → FormAt kind room stage a r c line front → Onward next a r line c m back → rest stage a r c m piece
-    one_rest Start order_line a r c m front back piece e f h = record { front = front; back = back; whole = e; first = f; second = known Atoms a r c m back h }
-    one_rest Start (atom_line x) a r c m front back piece e f h = absurd f
-    one_rest Start (rule_line o) a r c m front back piece e f h = absurd f
-    one_rest Start end_line a r c m front back piece e f h = absurd f
-    one_rest Atoms order_line a r c m front back piece e f h = absurd f
-    one_rest Atoms (atom_line x) a r c m front back piece e f h =
-        subst (λ b. rest Atoms a r c b piece) (sym h.1)
-        (record { front = front; back = back; whole = e; first = f; second = known Atoms (a + 1) r c h.0 back h.2 })
-    one_rest Atoms (rule_line o) a r c m front back piece e f h =
-        subst (λ b. rest Atoms a r c b piece) (sym h.1)
-        (late_atoms a r c h.0.atoms (o ∷ h.0.rules) piece
-        (rule_rest o a r c h.0.atoms h.0.rules piece (record { front = front; back = back; whole = e; first = f; second = known Rules a (r + 1) c h.0 back h.2 })))
-    one_rest Atoms end_line a r c m front back piece e f h = ended a r c Atoms m front back piece e f h.0 h.1
-    one_rest Rules order_line a r c m front back piece e f h = absurd f
-    one_rest Rules (atom_line x) a r c m front back piece e f h = absurd f
-    one_rest Rules (rule_line o) a r c m front back piece e f h =
-        subst (λ b. rest Rules a r c b piece) (sym h.1)
-        (rule_rest o a r c h.0.atoms h.0.rules piece (record { front = front; back = back; whole = e; first = f; second = known Rules a (r + 1) c h.0 back h.2 }))
-    one_rest Rules end_line a r c m front back piece e f h = ended a r c Rules m front back piece e f h.0 h.1
-    one_rest End line a r c m front back piece e f h = absurd f
+    one_rest : (stage : Stage) (line : Line S) (a r : ℕ) (c : Care) (m : Meaning S) (piece : List ℕ) → Followed (FormAt kind room stage a r c line) (Onward next a r line c m) piece → rest stage a r c m piece
+    one_rest Start order_line a r c m piece f = onto f (known Atoms a r c m f.back f.second)
+    one_rest Start (atom_line x) a r c m piece f = absurd f.first
+    one_rest Start (rule_line o) a r c m piece f = absurd f.first
+    one_rest Start end_line a r c m piece f = absurd f.first
+    one_rest Atoms order_line a r c m piece f = absurd f.first
+    one_rest Atoms (atom_line x) a r c m piece f =
+        let (k, e, h) = f.second in
+        subst (λ b. rest Atoms a r c b piece) (sym e) (onto f (known Atoms (a + 1) r c k f.back h))
+    one_rest Atoms (rule_line o) a r c m piece f =
+        let (k, e, h) = f.second in
+        subst (λ b. rest Atoms a r c b piece) (sym e)
+        (late_atoms a r c k.atoms (o ∷ k.rules) piece
+        (rule_rest o a r c k.atoms k.rules piece (onto f (known Rules a (r + 1) c k f.back h))))
+    one_rest Atoms end_line a r c m piece f = subst (λ b. rest Atoms a r c b piece) (sym f.second.0) (ended f)
+    one_rest Rules order_line a r c m piece f = absurd f.first
+    one_rest Rules (atom_line x) a r c m piece f = absurd f.first
+    one_rest Rules (rule_line o) a r c m piece f =
+        let (k, e, h) = f.second in
+        subst (λ b. rest Rules a r c b piece) (sym e) (rule_rest o a r c k.atoms k.rules piece (onto f (known Rules a (r + 1) c k f.back h)))
+    one_rest Rules end_line a r c m piece f = subst (λ b. rest Rules a r c b piece) (sym f.second.0) (ended f)
+    one_rest End line a r c m piece f = absurd f.first
 
   -- n forms, or fewer, are what remains of a text
   pub lines_rest : (n : ℕ) (stage : Stage) (a r : ℕ) (c : Care) (m : Meaning S) (piece : List ℕ) → Lines n stage a r c m piece → rest stage a r c m piece
@@ -111,21 +103,21 @@ module _ {S : Type 0} (kind : Notation S) (room : Counts) where
   lines_rest zero stage a r kept m piece h = absurd h.0
   lines_rest zero stage a r plain m piece h = absurd h.0
   lines_rest (suc n) stage a r c m piece h =
-      one_rest (Lines n) (lines_rest n) stage h.value a r c m h.parts.front h.parts.back piece h.parts.whole h.parts.first h.parts.second
+      one_rest (Lines n) (lines_rest n) stage h.value a r c m piece h.parts
 
   via : (n : ℕ) (stage : Stage) (a r : ℕ) (c : Care) (m : Meaning S) (line : Line S) (piece : List ℕ) → Followed (FormAt kind room stage a r c line) (Onward (Lines n) a r line c m) piece → Lines (suc n) stage a r c m piece
   via n stage a r c m line piece f = record { value = line; parts = f }
 
   late_lines : (n : ℕ) (os : List (Option Rule)) (a r : ℕ) (c : Care) (piece : List ℕ) → length os < n → rest Rules a r c (record { atoms = []; rules = os }) piece → Lines n Rules a r c (record { atoms = []; rules = os }) piece
   late_lines zero os a r c piece l h = absurd (omega arith)
-  late_lines (suc n) [] a r c piece l h = via n Rules a r c bare end_line piece (record { front = piece; back = []; whole = sym (append-nil piece); first = h; second = (refl, refl) })
+  late_lines (suc n) [] a r c piece l h = via n Rules a r c bare end_line piece (unended refl h)
   late_lines (suc n) (o ∷ os) a r c piece l h =
       via n Rules a r c (record { atoms = []; rules = o ∷ os }) (rule_line o) piece
       (onto h (record { atoms = []; rules = os }, refl, late_lines n os a (r + 1) c h.back (omega arith) h.second))
 
   atoms_lines : (n : ℕ) (xs : List (Atom S)) (os : List (Option Rule)) (a r : ℕ) (c : Care) (piece : List ℕ) → length xs + length os < n → rest Atoms a r c (record { atoms = xs; rules = os }) piece → Lines n Atoms a r c (record { atoms = xs; rules = os }) piece
   atoms_lines zero xs os a r c piece l h = absurd (omega arith)
-  atoms_lines (suc n) [] [] a r c piece l h = via n Atoms a r c bare end_line piece (record { front = piece; back = []; whole = sym (append-nil piece); first = h; second = (refl, refl) })
+  atoms_lines (suc n) [] [] a r c piece l h = via n Atoms a r c bare end_line piece (unended refl h)
   atoms_lines (suc n) [] (o ∷ os) a r c piece l h =
       via n Atoms a r c (record { atoms = []; rules = o ∷ os }) (rule_line o) piece
       (onto h (record { atoms = []; rules = os }, refl, late_lines n os a (r + 1) c h.back (omega arith) h.second))
@@ -142,18 +134,17 @@ module _ {S : Type 0} (kind : Notation S) (room : Counts) where
 module _ {S : Type 0} (kind : Notation S) (room : Counts) (forms : FormsAgree kind room) where
   onward_agrees : (next : Stage → ℕ → ℕ → List ℕ → ℕ → Result (Meaning S × ℕ) Fault) (G : Stage → ℕ → ℕ → Care → Meaning S → List ℕ → Type 0) → ((stage : Stage) → Going stage → (a r : ℕ) → Agrees (next stage a r) (G stage a r) Any) → (a r : ℕ) (line : Line S) → Agrees (onward next a r line) (Onward G a r line) Any
   onward_agrees next G h a r order_line = h Atoms tt a r
-  onward_agrees next G h a r (atom_line x) = agrees_map (with_atom x) (next Atoms (a + 1) r) (G Atoms (a + 1) r) (h Atoms tt (a + 1) r)
-  onward_agrees next G h a r (rule_line o) = agrees_map (with_rule o) (next Rules a (r + 1)) (G Rules a (r + 1)) (h Rules tt a (r + 1))
-  onward_agrees next G h a r end_line = agrees_done bare Any
+  onward_agrees next G h a r (atom_line x) = agrees_map (with_atom x) (h Atoms tt (a + 1) r)
+  onward_agrees next G h a r (rule_line o) = agrees_map (with_rule o) (h Rules tt a (r + 1))
+  onward_agrees next G h a r end_line = agrees_done bare
 
   -- reading on agrees with what remains
   pub lines_agree : (n : ℕ) (stage : Stage) → Going stage → (a r : ℕ) → Agrees (lines kind room n stage a r) (Lines kind room n stage a r) Any
   lines_agree zero stage g a r =
-      agrees_never (Reading (Number 0)) tt (Lines kind room zero stage a r) Any (λ c m piece h. (tt, h.1))
+      agrees_never (Reading (Number 0)) tt (λ c m piece h. (tt, h.1))
       (let s = rest_sample kind room stage g a r in (s.0, s.1, (tt, s.2)))
       (λ c m piece h. h.0)
   lines_agree (suc n) stage g a r =
-      agrees_then (reads_form kind room stage a r) (λ at line. onward (lines kind room n) a r line)
-      (FormAt kind room stage a r) (Onward (Lines kind room n) a r) Any Any (forms stage g a r)
+      agrees_then (forms stage g a r)
       (λ at line. onward_agrees (lines kind room n) (Lines kind room n) (lines_agree n) a r line)
       (λ c line m piece rest h s. tt)

@@ -17,7 +17,7 @@ drop_suc (x ∷ text) zero b e = grind arith
 drop_suc (x ∷ text) (suc at) b e = drop_suc text at b e
 
 -- a byte at a place, and what follows it
-pub drop_step : (text : List ℕ) (at b : ℕ) → slice_get text at ≡ Some b → drop at text ≡ b ∷ drop (at + 1) text
+drop_step : (text : List ℕ) (at b : ℕ) → slice_get text at ≡ Some b → drop at text ≡ b ∷ drop (at + 1) text
 drop_step text at b e = rw add-one (drop_suc text at b e)
 
 -- past a piece stands what follows it
@@ -28,7 +28,7 @@ drop_past text at piece rest e = sym (drop-drop (length piece) at text) ∙ ap (
 pub between_join : (text : List ℕ) (at mid next : ℕ) (p q : List ℕ) → Between text at mid p → Between text mid next q → Between text at next (p ++ q)
 between_join text at mid next p q a b =
     record {
-      stands = a.stands ∙ ap (λ t. p ++ t) b.stands ∙ sym (append_assoc p q (drop next text));
+      stands = grind (arith, a.stands, b.stands, append_assoc);
       place = omega (arith, a.place, b.place, length-append p q);
     }
 

@@ -5,9 +5,8 @@ use Rattle.std.specs.List.{slice_get}
 use Rattle.books.specs.Check.{book_fault, unless}
 use Rattle.books.specs.Meaning.{Meaning}
 use Rattle.books.specs.declared.fault.CheckFault.{CheckFault}
-use Rattle.books.specs.declared.fault.MakeFault.TheVariants.{SheetTooShort}
 use Rattle.books.specs.declared.fault.Fault.{Fault}
-use Rattle.books.specs.declared.fault.Fault.TheVariants.{Reading, Making}
+use Rattle.books.specs.declared.fault.Fault.TheVariants.{Reading}
 use Rattle.books.specs.declared.fault.ReadFault.TheVariants.{Byte, TooMany}
 use Rattle.text.specs.Bytes.{and_then, wrong_at}
 use Rattle.text.specs.Kinds.{begins}
@@ -22,6 +21,7 @@ use Rattle.grammar.specs.Programs.{RefusedByAll, ProgramRefusesThere}
 use Rattle.grammar.specs.Theorems.{read_as, written_of, Shaped, RefusedThere}
 use Rattle.grammar.proofs.Laws.{lawful_ticks, lawful_routes, lawful_pairs, refused_at_the_first_byte_lem}
 use Rattle.stamps.specs.Orders.{Tests}
+use Rattle.std.proofs.lemmas.Bool.Decides.{nat_tests}
 
 -- how many bytes of a word a text begins with
 abbrev agreed : List ℕ → List ℕ → ℕ
@@ -41,11 +41,7 @@ agreed_step b word text at = rw add-one (by_suc text at)
 agrees_to_lem : (word text : List ℕ) (at : ℕ) → agrees_to word text at ≡ at + agreed word (drop at text)
 unfolding agrees_to
 agrees_to_lem [] text at = omega arith
-agrees_to_lem (b ∷ word) text at = by_test (is_byte b (slice_get text at)) (agrees_to word text (at + 1)) (agreed word (drop (at + 1) text)) (agrees_to_lem word text (at + 1)) ∙ ap (λ n. at + n) (sym (agreed_step b word text at))
-  where
-    by_test : (t : Bool) (j x : ℕ) → j ≡ at + 1 + x → cond t j at ≡ at + cond t (suc x) 0
-    by_test true j x e = omega (arith, e)
-    by_test false j x e = omega arith
+agrees_to_lem (b ∷ word) text at = rw (agreed_step b word text at) (grind (arith, agrees_to_lem word text (at + 1)))
 
 -- the place up to which a text agrees with a word is the count of the bytes that agree
 agrees_from_start : (word text : List ℕ) → agrees_to word text 0 ≡ agreed word text
@@ -58,22 +54,14 @@ agrees_from_start word text = omega (arith, agrees_to_lem word text 0, ap (agree
 agreed_within : (word text : List ℕ) → agreed word text ≤ length text
 agreed_within [] text = omega arith
 agreed_within (b ∷ word) [] = omega arith
-agreed_within (b ∷ word) (c ∷ text) = by_test (eqb c b) (agreed word text) (length text) (agreed_within word text)
-  where
-    by_test : (t : Bool) (x n : ℕ) → x ≤ n → cond t (suc x) 0 ≤ suc n
-    by_test true x n l = omega arith
-    by_test false x n l = omega arith
+agreed_within (b ∷ word) (c ∷ text) = grind (arith, agreed_within word text)
 
 -- what agrees with a word goes on as the word does
 agreed_front : (word text tail : List ℕ) → take (agreed word text) text ++ (drop (agreed word text) word ++ tail) ≡ word ++ tail
 agreed_front [] [] tail = refl
 agreed_front [] (c ∷ text) tail = refl
 agreed_front (b ∷ word) [] tail = refl
-agreed_front (b ∷ word) (c ∷ text) tail = by_test (eqb c b) refl (agreed word text) (agreed_front word text tail)
-  where
-    by_test : (t : Bool) → eqb c b ≡ t → (x : ℕ) → take x text ++ (drop x word ++ tail) ≡ word ++ tail → take (cond t (suc x) 0) (c ∷ text) ++ (drop (cond t (suc x) 0) (b ∷ word) ++ tail) ≡ b ∷ (word ++ tail)
-    by_test true e x h = ap (λ y. y ∷ (take x text ++ (drop x word ++ tail))) (eqb-true c b e) ∙ ap (λ t. b ∷ t) h
-    by_test false e x h = refl
+agreed_front (b ∷ word) (c ∷ text) tail = grind (arith, nat_tests, agreed_front word text tail)
 
 -- a text whose front up to k and at it goes on as one with the word agrees with the word past k, or begins with all of it
 meets : (word rest text more : List ℕ) (k : ℕ) → k < length text → take (suc k) text ++ more ≡ word ++ rest → (k < agreed word text) ⊎ (begins word text ≡ true)
@@ -114,7 +102,7 @@ module _ {S : Type 0} (n : Notation S) where
   order_front text (m, s) =
       let o = s.first in
       let p = o.second in
-      let line = p.whole ∙ ap (λ t. t ++ p.back) p.first ∙ ap (λ t. n.word ++ t) p.second in
+      let line = p.whole ∙ grind (arith, p.first, p.second) in
       (s.back, s.whole ∙ ap (λ t. t ++ s.back) (o.whole ∙ ap (λ t. t ++ o.back) o.first ∙ ap (λ t. codes "(order " ++ t) line))
 
   -- the text of the book that has nothing
@@ -254,11 +242,7 @@ order_place text = omega (arith, agrees_from_start tick_order text, agrees_from_
 no_byte : {X : Type 0} (fault gap : Option CheckFault) (needed room : ℕ) (x : X) (k : ℕ) → and_then (unless fault) (λ _. and_then (write_answer gap needed room) (λ _. Ok x)) ≡ Err (Reading (Byte k)) → ⊥
 no_byte (Some f) gap needed room x k e = grind arith
 no_byte None (Some f) needed room x k e = grind arith
-no_byte {X} None None needed room x k e = by_room (ltb room needed) e
-  where
-    by_room : (t : Bool) → and_then (cond t (Err (Making (SheetTooShort needed))) (Ok needed)) (λ _. Ok x) ≡ Err (Reading (Byte k)) → ⊥
-    by_room true e = grind arith
-    by_room false e = grind arith
+no_byte None None needed room x k e = grind arith
 
 -- so a byte that is refused on the way to the canonical text is refused by the reader
 read_refused : {S : Type 0} (n : Notation S) (tests : Tests S) (text : List ℕ) (atoms rules room k : ℕ) → canonical_at n.stamp_at n.word n.spelt tests text atoms rules room ≡ Err (Reading (Byte k)) → read_as n text atoms rules ≡ Err (Reading (Byte k))
@@ -289,5 +273,4 @@ program_refuses_there_lem text tick_rows route_rows pair_rows rules room k e =
     (short (ltb 65536 (length text)) _ e)
   where
     short : (t : Bool) (r : Result (List ℕ) Fault) → cond t (Err (Reading (TooMany 0))) r ≡ Err (Reading (Byte k)) → r ≡ Err (Reading (Byte k))
-    short true r h = absurd (grind arith)
-    short false r h = h
+    short t r h = grind arith

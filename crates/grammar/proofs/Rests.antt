@@ -8,8 +8,8 @@ use Rattle.text.specs.declared.counts.Counts.{Counts}
 use Rattle.text.specs.declared.reader.Stage.{Stage}
 use Rattle.text.specs.declared.reader.Stage.TheVariants.{Start, Atoms, Rules, End}
 use Rattle.grammar.specs.Pieces.{Care, shape, kept, Kept, Exactly, Followed}
-use Rattle.grammar.specs.Grammar.{AtomForm, AtomForms, RuleForm, RuleForms, OrderForm}
-use Rattle.grammar.proofs.Following.{followed_map, regroup, ungroup}
+use Rattle.grammar.specs.Grammar.{AtomForms, RuleForms, OrderForm}
+use Rattle.grammar.proofs.Following.{followed_map, regroup, ungroup, under}
 use Rattle.grammar.proofs.Keeping.{kept_map}
 use Rattle.grammar.proofs.Lines.{AtomNext, FormAt, Going}
 use Rattle.grammar.specs.Notations.{Notation}
@@ -55,11 +55,10 @@ module _ {S : Type 0} (kind : Notation S) (room : Counts) where
   rules_spelt : (os : List (Option Rule)) (a r : ℕ) (c : Care) (piece : List ℕ) → RulesRest a r c os piece → Followed (RuleForms c a r os) (Exactly end_text) piece
   rules_spelt [] a r c piece h = record { front = []; back = piece; whole = refl; first = refl; second = h }
   rules_spelt (o ∷ os) a r c piece h =
-      regroup
-      (followed_map (λ t f. f.1) (rules_spelt os a (r + 1) c) h)
+      regroup (followed_map (λ t f. f.1) (rules_spelt os a (r + 1) c) h)
 
   rules_rest : (os : List (Option Rule)) (a r : ℕ) (c : Care) (piece : List ℕ) → Kept c (r + length os ≤ room.rules) → Followed (RuleForms c a r os) (Exactly end_text) piece → RulesRest a r c os piece
-  rules_rest [] a r c piece k h = h.whole ∙ ap (λ t. t ++ h.back) h.first ∙ h.second
+  rules_rest [] a r c piece k h = grind (arith, h.whole, h.first, h.second)
   rules_rest (o ∷ os) a r c piece k h =
       followed_map
       (λ t f. (kept_map c (λ (l : r + length (o ∷ os) ≤ room.rules). omega arith) k, f))
@@ -84,8 +83,7 @@ module _ {S : Type 0} (kind : Notation S) (room : Counts) where
   atoms_spelt (x ∷ xs) os a r c piece h =
       let count : a + 1 + length xs ≡ a + length (x ∷ xs) = omega arith in
       subst (λ n. Followed (AtomForms kind.spells c a (x ∷ xs)) (Late r c os n) piece) count
-      (regroup
-      (followed_map (λ t f. f.1) (atoms_spelt xs os (a + 1) r c) h))
+      (regroup (followed_map (λ t f. f.1) (atoms_spelt xs os (a + 1) r c) h))
 
   atoms_rest : (xs : List (Atom S)) (os : List (Option Rule)) (a r : ℕ) (c : Care) (piece : List ℕ) → Kept c (a + length xs ≤ room.atoms) → Kept c (r + length os ≤ room.rules) → Followed (AtomForms kind.spells c a xs) (Late r c os (a + length xs)) piece → AtomsRest a r c xs os piece
   atoms_rest [] os a r c piece k l h =
@@ -97,8 +95,7 @@ module _ {S : Type 0} (kind : Notation S) (room : Counts) where
       followed_map
       (λ t f. (kept_map c (λ (m : a + length (x ∷ xs) ≤ room.atoms). omega arith) k, f))
       (λ t g. atoms_rest xs os (a + 1) r c t (kept_map c (λ (m : a + length (x ∷ xs) ≤ room.atoms). omega arith) k) l g)
-      (ungroup
-      (subst (λ n. Followed (AtomForms kind.spells c a (x ∷ xs)) (Late r c os n) piece) count h))
+      (ungroup (subst (λ n. Followed (AtomForms kind.spells c a (x ∷ xs)) (Late r c os n) piece) count h))
 
   atoms_roomy : (xs : List (Atom S)) (os : List (Option Rule)) (a r : ℕ) (piece : List ℕ) → AtomsRest a r kept xs os piece → a ≤ room.atoms → r ≤ room.rules → (a + length xs ≤ room.atoms) × (r + length os ≤ room.rules)
   atoms_roomy [] os a r piece h k l = (omega arith, rules_roomy os a r piece h l)
@@ -112,7 +109,7 @@ module _ {S : Type 0} (kind : Notation S) (room : Counts) where
   rest_spells c m text h =
       let count : 0 + length m.atoms ≡ length m.atoms = omega arith in
       subst (λ n. Followed (OrderForm kind.word) (Followed (AtomForms kind.spells c 0 m.atoms) (Late 0 c m.rules n)) text) count
-      (followed_map (λ t f. f) (atoms_spelt m.atoms m.rules 0 0 c) h)
+      (under (atoms_spelt m.atoms m.rules 0 0 c) h)
 
   -- and a text that spells a book, where there is room for it, is what remains from the start on
   pub spells_rest : (c : Care) (m : Meaning S) (text : List ℕ) → Kept c ((length m.atoms ≤ room.atoms) × (length m.rules ≤ room.rules)) → SpeltBy kind c m text → Rest Start 0 0 c m text
@@ -120,7 +117,7 @@ module _ {S : Type 0} (kind : Notation S) (room : Counts) where
       let count : length m.atoms ≡ 0 + length m.atoms = omega arith in
       let one = kept_map c (λ (l : (length m.atoms ≤ room.atoms) × (length m.rules ≤ room.rules)). let x = l.0 in omega arith) k in
       let two = kept_map c (λ (l : (length m.atoms ≤ room.atoms) × (length m.rules ≤ room.rules)). let x = l.1 in omega arith) k in
-      followed_map (λ t f. f) (λ t. atoms_rest m.atoms m.rules 0 0 c t one two)
+      under (λ t. atoms_rest m.atoms m.rules 0 0 c t one two)
       (subst (λ n. Followed (OrderForm kind.word) (Followed (AtomForms kind.spells c 0 m.atoms) (Late 0 c m.rules n)) text) count h)
 
   -- there is room for what remains from the start on

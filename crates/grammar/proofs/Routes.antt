@@ -156,17 +156,17 @@ rising_marked : (ks : List ℕ) → RisingFrom 0 ks → AllByRecursion (λ k. k 
 rising_marked ks r b = marked_on 64 ks 0 [] 0 (omega arith) none r (within_64 ks b)
 
 -- a mask is that of its aisles
-pub route_aisles : (mask : ℕ) → mask < 2 ^ 64 → (ks : List ℕ) × RisingFrom 0 ks × AllByRecursion (λ k. k ≤ 63) ks × (mask ≡ with_aisles 0 ks)
+route_aisles : (mask : ℕ) → mask < 2 ^ 64 → (ks : List ℕ) × RisingFrom 0 ks × AllByRecursion (λ k. k ≤ 63) ks × (mask ≡ with_aisles 0 ks)
 route_aisles mask l =
     let (ks, h) = marks mask 64 in
     (ks, marked_rising h, All-weaker (λ k. k < 64) (λ k. k ≤ 63) (λ k b. omega arith) ks (marked_all h), sym (mod-eq_of_lt l) ∙ marked_mask h)
 
 -- the mask of aisles fits
-pub aisles_fit : (ks : List ℕ) → RisingFrom 0 ks → AllByRecursion (λ k. k ≤ 63) ks → with_aisles 0 ks < 2 ^ 64
+aisles_fit : (ks : List ℕ) → RisingFrom 0 ks → AllByRecursion (λ k. k ≤ 63) ks → with_aisles 0 ks < 2 ^ 64
 aisles_fit ks r b = marked_below (rising_marked ks r b)
 
 -- the text that is written of the mask of rising aisles is that of their list
-pub route_text_lem : (ks : List ℕ) → RisingFrom 0 ks → AllByRecursion (λ k. k ≤ 63) ks → route_text (record { aisles = with_aisles 0 ks }) ≡ list_text ks
+route_text_lem : (ks : List ℕ) → RisingFrom 0 ks → AllByRecursion (λ k. k ≤ 63) ks → route_text (record { aisles = with_aisles 0 ks }) ≡ list_text ks
 route_text_lem ks r b =
     let h = rising_marked ks r b in
     ap (λ t. opening ++ (t ++ shutting)) (marked_text h (with_aisles 0 ks) (mod-eq_of_lt (marked_below h))) ∙ sym (list_text_lem ks)

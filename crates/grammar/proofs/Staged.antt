@@ -1,22 +1,21 @@
 -- The form at which a reader stands agrees with the forms that are allowed there.
-use Rattle.std.proofs.Common.{◌≡◌, ℕ, cond, ◌⊎◌, List, [], ◌∷◌, ◌++◌, Some, None, Ok, codes, Result, sym, refl, ap, ◌∙◌, subst, inl, inr}
+use Rattle.std.proofs.Common.{◌≡◌, ℕ, cond, ◌⊎◌, List, [], ◌∷◌, ◌++◌, Some, None, codes, Result, sym, refl, ap, subst, inl, inr, arith}
 use Rattle.std.specs.List.{slice_get}
-use Rattle.books.specs.Meaning.{Rule, Atom}
+use Rattle.books.specs.Meaning.{Rule}
 use Rattle.books.specs.declared.fault.Fault.{Fault}
-use Rattle.text.specs.Bytes.{and_then}
 use Rattle.text.specs.Forms.{Line, order_line, atom_line, rule_line, end_line, closing, order_at}
-use Rattle.text.specs.Kinds.{order_opening, atom_opening, rule_opening, void_opening}
-use Rattle.text.specs.Spelt.{space, end_text, kind_text}
-use Rattle.text.specs.Words.{pass_word, is_byte}
+use Rattle.text.specs.Kinds.{order_opening}
+use Rattle.text.specs.Spelt.{space, end_text}
+use Rattle.text.specs.Words.{is_byte}
 use Rattle.text.specs.declared.counts.Counts.{Counts}
 use Rattle.text.specs.declared.reader.Stage.{Stage}
 use Rattle.text.specs.declared.reader.Stage.TheVariants.{Start, Atoms, Rules, End}
 use Rattle.grammar.specs.Pieces.{Care, Exactly, Followed}
-use Rattle.grammar.specs.Grammar.{OrderForm, Numbered, Declared, Body}
+use Rattle.grammar.specs.Grammar.{OrderForm, Declared, Body}
 use Rattle.grammar.specs.Agreement.{Agrees, NoDigit}
 use Rattle.grammar.proofs.Agreeing.{Any, agrees_same, agrees_as, agrees_done, byte_then_at, word_then}
 use Rattle.grammar.proofs.Choosing.{agrees_choice}
-use Rattle.grammar.proofs.Dispatch.{atom_word, rule_word, void_word, rule_rest, void_rest, atom_rest, after_atom, after_rule, after_void, after_end, start_same, rules_same, atoms_same}
+use Rattle.grammar.proofs.Dispatch.{atom_word, rule_word, void_word, after_atom, after_rule, after_void, after_end, start_same, rules_same, atoms_same}
 use Rattle.grammar.proofs.Following.{under, regroup, ungroup, ended, unended, word_to, word_from, first_of, onto}
 use Rattle.grammar.proofs.Formed.{Parts}
 use Rattle.grammar.proofs.Forms.{RuleRest, rule_rest_agrees, VoidRest, void_rest_agrees, EndRest, end_rest_agrees, AtomRest, atom_rest_agrees}
@@ -72,10 +71,10 @@ module _ {S : Type 0} (kind : Notation S) (room : Counts) (stamps : Agrees kind.
   late_agrees : (at : ℕ) → Agrees (late_reader at) Late Any
   unfolding late_reader
   late_agrees at =
-      agrees_choice 114 (after_rule kind room atoms rules at) _ RuleAfter (λ c y piece. VoidAfter c y piece ⊎ EndAfter c y piece) Any
-      (word_then rule_word (rule_rest S room atoms rules at) (RuleRest S room atoms rules) Any (rule_rest_agrees S room atoms rules at))
-      (agrees_choice 118 (after_void kind room atoms rules at) (after_end kind room atoms rules) VoidAfter EndAfter Any
-      (word_then void_word (void_rest S room atoms rules at) (VoidRest S room atoms rules) Any (void_rest_agrees S room atoms rules at))
+      agrees_choice 114
+      (word_then rule_word (rule_rest_agrees S room atoms rules at))
+      (agrees_choice 118
+      (word_then void_word (void_rest_agrees S room atoms rules at))
       (end_rest_agrees S room atoms rules)
       (λ c y piece more f. ap (is_byte 118) (first_of more f))
       (λ c y piece more e. ap (λ t. is_byte 118 (slice_get (t ++ more) 0)) e.1))
@@ -87,21 +86,18 @@ module _ {S : Type 0} (kind : Notation S) (room : Counts) (stamps : Agrees kind.
       no_rule c y piece more (inr e) = ap (λ t. is_byte 114 (slice_get (t ++ more) 0)) e.1
 
   -- a bracket and then a form's word are its opening
-  opened : (rest : List ℕ) (A B : List ℕ → Type 0) (text : List ℕ) (f : Followed (Exactly (40 ∷ [])) A text) → Followed (Exactly rest) B f.back → Followed (Exactly (40 ∷ rest)) B text
-  opened rest A B text f g = word_to 40 rest (onto f g)
+  opened : (rest : List ℕ) {A B : List ℕ → Type 0} {text : List ℕ} (f : Followed (Exactly (40 ∷ [])) A text) → Followed (Exactly rest) B f.back → Followed (Exactly (40 ∷ rest)) B text
+  opened rest f g = word_to 40 rest (onto f g)
 
-  late_to : (c : Care) (y : Line S) (text : List ℕ) (A : List ℕ → Type 0) (f : Followed (Exactly (40 ∷ [])) A text) → Late c y f.back → LateForm kind room atoms rules c y text
-  late_to c y text A f (inl g) =
+  late_to : (c : Care) (y : Line S) (text : List ℕ) {A : List ℕ → Type 0} (f : Followed (Exactly (40 ∷ [])) A text) → Late c y f.back → LateForm kind room atoms rules c y text
+  late_to c y text f (inl g) =
       let (r, e, k, h) = g.second in
-      let body = under (parts_open c atoms r) h in
-      let whole : Followed (Exactly rule_opening) (Followed (Numbered c rules) (Closing c atoms r)) text = opened rule_word A (Followed (Numbered c rules) (Closing c atoms r)) text f (onto g body) in
-      subst (λ x. LateForm kind room atoms rules c x text) (sym e) (k, whole)
-  late_to c y text A f (inr (inl g)) =
+      subst (λ x. LateForm kind room atoms rules c x text) (sym e) (k, opened rule_word f (onto g (under (parts_open c atoms r) h)))
+  late_to c y text f (inr (inl g)) =
       let (e, k, h) = g.second in
-      let whole : Followed (Exactly void_opening) (Followed (Numbered c rules) (Exactly closing)) text = opened void_word A (Followed (Numbered c rules) (Exactly closing)) text f (onto g h) in
-      subst (λ x. LateForm kind room atoms rules c x text) (sym e) (k, whole)
-  late_to c y text A f (inr (inr g)) =
-      let whole : text ≡ end_text = f.whole ∙ ap (λ t. t ++ f.back) f.first ∙ ap (λ t. 40 ∷ t) g.1 in
+      subst (λ x. LateForm kind room atoms rules c x text) (sym e) (k, opened void_word f (onto g h))
+  late_to c y text f (inr (inr g)) =
+      let whole : text ≡ end_text = grind (arith, f.whole, f.first, g.1) in
       subst (λ x. LateForm kind room atoms rules c x text) (sym g.0) whole
 
   late_from : (c : Care) (y : Line S) (text : List ℕ) → LateForm kind room atoms rules c y text → Followed (Exactly (40 ∷ [])) (Late c y) text
@@ -114,8 +110,7 @@ module _ {S : Type 0} (kind : Notation S) (room : Counts) (stamps : Agrees kind.
   late_from c (rule_line (Some r)) text h =
       let f = word_from 40 rule_word h.1 in
       let g = f.second in
-      let body = under (parts_shut c atoms r) g.second in
-      onto f (inl (onto g (r, refl, h.0, body)))
+      onto f (inl (onto g (r, refl, h.0, under (parts_shut c atoms r) g.second)))
   late_from c end_line text h =
       record { front = 40 ∷ []; back = codes "end)\n"; whole = h; first = refl; second = inr (inr (refl, refl)) }
 
@@ -123,8 +118,8 @@ module _ {S : Type 0} (kind : Notation S) (room : Counts) (stamps : Agrees kind.
   unfolding late_reader
   rules_agree =
       agrees_same (rules_same kind room atoms rules)
-      (agrees_as (λ c y text f. late_to c y text (Late c y) f f.second) late_from
-      (byte_then_at 40 late_reader Late Any late_agrees))
+      (agrees_as (λ c y text f. late_to c y text f f.second) late_from
+      (byte_then_at 40 late_agrees))
 
   -- among atoms
   abbrev Early : Care → Line S → List ℕ → Type 0
@@ -132,8 +127,8 @@ module _ {S : Type 0} (kind : Notation S) (room : Counts) (stamps : Agrees kind.
 
   early_agrees : (at : ℕ) → Agrees (λ text m. cond (is_byte 97 (slice_get text m)) (after_atom kind room atoms rules at text m) (late_reader at text m)) Early Any
   early_agrees at =
-      agrees_choice 97 (after_atom kind room atoms rules at) (late_reader at) AtomAfter Late Any
-      (word_then atom_word (atom_rest S room atoms rules kind.stamp_at at) (AtomRest S room atoms rules kind.stamp_at kind.spells stamps) Any (atom_rest_agrees S room atoms rules kind.stamp_at kind.spells stamps at))
+      agrees_choice 97
+      (word_then atom_word (atom_rest_agrees S room atoms rules kind.stamp_at kind.spells stamps at))
       (late_agrees at)
       (λ c y piece more f. ap (is_byte 97) (first_of more f))
       no_atom_lem
@@ -150,15 +145,11 @@ module _ {S : Type 0} (kind : Notation S) (room : Counts) (stamps : Agrees kind.
   late_early c (rule_line r) text h = h
   late_early c end_line text h = h
 
-  abbrev AtomTail : Care → Atom S → List ℕ → Type 0
-  AtomTail c a = Followed (Numbered c atoms) (Followed (Exactly (kind_text a.reading)) (Followed (kind.spells c a.stamp) (Exactly closing)))
-
-  early_to : (c : Care) (y : Line S) (text : List ℕ) (A : List ℕ → Type 0) (f : Followed (Exactly (40 ∷ [])) A text) → Early c y f.back → FormAt kind room Atoms atoms rules c y text
-  early_to c y text A f (inl g) =
+  early_to : (c : Care) (y : Line S) (text : List ℕ) {A : List ℕ → Type 0} (f : Followed (Exactly (40 ∷ [])) A text) → Early c y f.back → FormAt kind room Atoms atoms rules c y text
+  early_to c y text f (inl g) =
       let (a, e, k, h) = g.second in
-      let whole : Followed (Exactly atom_opening) (AtomTail c a) text = opened atom_word A (AtomTail c a) text f (onto g h) in
-      subst (λ x. FormAt kind room Atoms atoms rules c x text) (sym e) (k, whole)
-  early_to c y text A f (inr g) = late_early c y text (late_to c y text A f g)
+      subst (λ x. FormAt kind room Atoms atoms rules c x text) (sym e) (k, opened atom_word f (onto g h))
+  early_to c y text f (inr g) = late_early c y text (late_to c y text f g)
 
   early_from : (c : Care) (y : Line S) (text : List ℕ) → FormAt kind room Atoms atoms rules c y text → Followed (Exactly (40 ∷ [])) (Early c y) text
   early_from c order_line text h = absurd h
@@ -173,8 +164,8 @@ module _ {S : Type 0} (kind : Notation S) (room : Counts) (stamps : Agrees kind.
   unfolding late_reader
   atoms_agree =
       agrees_same (atoms_same kind room atoms rules)
-      (agrees_as (λ c y text f. early_to c y text (Early c y) f f.second) early_from
-      (byte_then_at 40 (λ at text m. cond (is_byte 97 (slice_get text m)) (after_atom kind room atoms rules at text m) (late_reader at text m)) Early Any early_agrees))
+      (agrees_as (λ c y text f. early_to c y text f f.second) early_from
+      (byte_then_at 40 early_agrees))
 
   -- before the order
   abbrev Ordered : Care → Line S → List ℕ → Type 0
@@ -197,9 +188,9 @@ module _ {S : Type 0} (kind : Notation S) (room : Counts) (stamps : Agrees kind.
   start_agrees =
       agrees_same (start_same kind room atoms rules)
       (agrees_as order_to order_from
-      (word_then order_opening (λ text a. and_then (pass_word kind.word text a) (λ b. and_then (pass_word closing text b) (λ next. Ok (order_line, next)))) _ Any
-      (word_then kind.word (λ text b. and_then (pass_word closing text b) (λ next. Ok (order_line, next))) _ Any
-      (word_then closing (λ text m. Ok (order_line, m)) (λ c y p. (y ≡ order_line) × (p ≡ [])) Any (agrees_done order_line Any)))))
+      (word_then order_opening
+      (word_then kind.word
+      (word_then closing (agrees_done order_line)))))
 
   -- at every stage but the end
   pub forms_agree : (stage : Stage) → Going stage → Agrees (reads_form kind room stage atoms rules) (FormAt kind room stage atoms rules) Any

@@ -3,7 +3,7 @@ use Rattle.std.proofs.Common.{◌≡◌, ℕ, List, [], ◌∷◌, ◌++◌, Ok,
 use Rattle.stamps.specs.declared.tick.Tick.{Tick}
 use Rattle.stamps.specs.declared.then.Then.{Then}
 use Rattle.text.specs.Bytes.{and_then, pass_at}
-use Rattle.text.specs.Numbers.{digit_of, number_at}
+use Rattle.text.specs.Numbers.{digit_of}
 use Rattle.text.specs.Stamps.{tick_at, pair_at}
 use Rattle.grammar.specs.Pieces.{Care, Exactly, Followed, Numeral, largest}
 use Rattle.grammar.specs.Stamps.{TickSpelt, PairSpelt}
@@ -22,7 +22,7 @@ IsTick v c t piece = (t ≡ record { 0 = v }) × (piece ≡ [])
 pub tick_agrees : Agrees tick_at TickSpelt NoDigit
 tick_agrees =
     agrees_as to from
-    (agrees_then (λ text at. number_at text at largest) (λ at v text m. Ok (record { 0 = v }, m)) Ticked IsTick NoDigit NoDigit (number_agrees largest) (λ at v. agrees_done (record { 0 = v }) NoDigit)
+    (agrees_then (number_agrees largest) (λ at v. agrees_done (record { 0 = v }))
     (λ c v t piece rest h s. subst (λ p. NoDigit (p ++ rest)) (sym h.1) s))
   where
     to : (c : Care) (t : Tick) (text : List ℕ) → Via Ticked IsTick c t text → TickSpelt c t text
@@ -37,8 +37,8 @@ Second a = Via TickSpelt (λ b c p. Followed (Exactly (41 ∷ [])) (λ q. (p ≡
 
 second_agrees : (a : Tick) → Agrees (λ text m. and_then (tick_at text m) (λ b. and_then (pass_at 41 text b.1) (λ next. Ok (record { first = a; second = b.0 }, next)))) (Second a) Any
 second_agrees a =
-    agrees_then tick_at (λ at b text m. and_then (pass_at 41 text m) (λ next. Ok (record { first = a; second = b }, next))) TickSpelt (λ b c p. Followed (Exactly (41 ∷ [])) (λ q. (p ≡ record { first = a; second = b }) × (q ≡ []))) NoDigit Any tick_agrees
-    (λ at b. byte_then 41 (λ text m. Ok (record { first = a; second = b }, m)) (λ c p q. (p ≡ record { first = a; second = b }) × (q ≡ [])) Any (agrees_done (record { first = a; second = b }) Any))
+    agrees_then tick_agrees
+    (λ at b. byte_then 41 (agrees_done (record { first = a; second = b })))
     (λ c b p piece rest f s. ap digit_of (first_of rest f))
 
 abbrev First : Care → Then Tick Tick → List ℕ → Type 0
@@ -48,9 +48,9 @@ First = Via TickSpelt (λ a c p. Followed (Exactly (32 ∷ [])) (Second a c p))
 pub pair_agrees : Agrees pair_at PairSpelt Any
 pair_agrees =
     agrees_as to from
-    (byte_then 40 _ First Any
-    (agrees_then tick_at (λ at a text m. and_then (pass_at 32 text m) (λ second. and_then (tick_at text second) (λ b. and_then (pass_at 41 text b.1) (λ next. Ok (record { first = a; second = b.0 }, next))))) TickSpelt (λ a c p. Followed (Exactly (32 ∷ [])) (Second a c p)) NoDigit Any tick_agrees
-    (λ at a. byte_then 32 (λ text m. and_then (tick_at text m) (λ b. and_then (pass_at 41 text b.1) (λ next. Ok (record { first = a; second = b.0 }, next)))) (Second a) Any (second_agrees a))
+    (byte_then 40
+    (agrees_then tick_agrees
+    (λ at a. byte_then 32 (second_agrees a))
     (λ c a p piece rest f s. ap digit_of (first_of rest f))))
   where
     to : (c : Care) (p : Then Tick Tick) (text : List ℕ) → Followed (Exactly (40 ∷ [])) (First c p) text → PairSpelt c p text

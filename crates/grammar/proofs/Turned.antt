@@ -137,7 +137,7 @@ module _ {S : Type 0} (kind : Notation S) (room : Counts) (text : List ℕ) wher
   -- past the end form: the book where no byte is left, and the next byte refused where one is
   past_end : (n at a r : ℕ) (xs : List (Atom S)) (os : List (Option Rule)) → at ≤ length text → length text ≤ n + at → and_then (tries form (progress End at a r xs os) n) finish ≡ closed xs os bare at (slice_get text at)
   past_end zero at a r xs os l k =
-      ap (λ t. and_then t finish) (tries_none form (progress End at a r xs os)) ∙ sym (ap (closed xs os bare at) (slice_get_past text at (omega arith)) ∙ closed_bare xs os at)
+      rw (tries_none form (progress End at a r xs os), slice_get_past text at (omega arith)) (sym (closed_bare xs os at))
   past_end (suc n) at a r xs os l k =
       let s = progress End at a r xs os in
       elim (cases_lt at (length text)) [
@@ -188,18 +188,18 @@ module _ {S : Type 0} (kind : Notation S) (room : Counts) (text : List ℕ) wher
     book_turns fuel l = turns_lines fuel (length text) Start tt 0 0 0 [] [] (omega arith) (omega arith) (omega arith)
 
 -- a book, where no byte is left
-abbrev pub ended : {S : Type 0} → Meaning S → ℕ → Option ℕ → Result (Meaning S × ℕ) Fault
-ended m at None = Ok (m, at)
-ended m at (Some b) = wrong_at at
+abbrev pub at_end : {S : Type 0} → Meaning S → ℕ → Option ℕ → Result (Meaning S × ℕ) Fault
+at_end m at None = Ok (m, at)
+at_end m at (Some b) = wrong_at at
 
-closed_ended : {S : Type 0} (m : Meaning S) (at : ℕ) (o : Option ℕ) → closed [] [] m at o ≡ and_then (ended m at o) (λ p. Ok p.0)
-closed_ended m at None = refl
-closed_ended m at (Some b) = refl
+closed_at_end : {S : Type 0} (m : Meaning S) (at : ℕ) (o : Option ℕ) → closed [] [] m at o ≡ and_then (at_end m at o) (λ p. Ok p.0)
+closed_at_end m at None = refl
+closed_at_end m at (Some b) = refl
 
 module _ {S : Type 0} (kind : Notation S) (room : Counts) where
   -- the forms of a text from the start on, and no byte more
   abbrev pub whole : ℕ → List ℕ → ℕ → Result (Meaning S × ℕ) Fault
-  whole n text at = and_then (lines kind room n Start 0 0 text at) (λ p. ended p.0 p.1 (slice_get text p.1))
+  whole n text at = and_then (lines kind room n Start 0 0 text at) (λ p. at_end p.0 p.1 (slice_get text p.1))
 
 module _ {S : Type 0} (kind : Notation S) (room : Counts) (forms : FormsAgree kind room) where
   -- the book of a text is that of its forms, where there may be more of them than bytes
@@ -208,5 +208,5 @@ module _ {S : Type 0} (kind : Notation S) (room : Counts) (forms : FormsAgree ki
       book_turns kind room text
       (λ stage g at a r i. seen_inside (FormAt kind room stage a r) (λ line piece. form_byte kind room stage line a r kept piece) (reads_form kind room stage a r text at) text at i ((forms stage g a r).seen text at))
       n l
-      ∙ then_same (lines kind room n Start 0 0 text 0) _ _ (λ p. closed_ended p.0 p.1 (slice_get text p.1))
-      ∙ sym (then_then (lines kind room n Start 0 0 text 0) (λ p. ended p.0 p.1 (slice_get text p.1)) (λ p. Ok p.0))
+      ∙ then_same (lines kind room n Start 0 0 text 0) _ _ (λ p. closed_at_end p.0 p.1 (slice_get text p.1))
+      ∙ sym (then_then (lines kind room n Start 0 0 text 0) (λ p. at_end p.0 p.1 (slice_get text p.1)) (λ p. Ok p.0))

@@ -1,14 +1,14 @@
 -- Lists as the reader goes through them, turn by turn, are lists as they are spelt.
-use Rattle.std.proofs.Common.{◌≡◌, ℕ, zero, suc, ◌+◌, Bool, true, false, cond, eqb, Some, None, Ok, Err, Option, Result, refl, ap, ◌∙◌}
+use Rattle.std.proofs.Common.{◌≡◌, ℕ, zero, suc, ◌+◌, Bool, true, false, cond, Some, None, Ok, Err, Option, Result, refl, ap, ◌∙◌, arith}
 use Rattle.books.specs.declared.fault.Fault.{Fault}
-use Rattle.text.specs.Bytes.{and_then, pass_if, wrong_at}
+use Rattle.text.specs.Bytes.{and_then, pass_if}
 use Rattle.text.specs.Lists.{empty_if, onward_if}
 use Rattle.text.specs.Turns.{turns, tries}
 use Rattle.text.specs.Words.{is_byte}
 
 module _ {X : Type 0} (f : X → Result X Fault) where
   -- a fault stays for all turns
-  pub tries_fault : (e : Fault) (n : ℕ) → turns (λ r. and_then r f) (Err e) n ≡ Err e
+  tries_fault : (e : Fault) (n : ℕ) → turns (λ r. and_then r f) (Err e) n ≡ Err e
   unfolding turns
   tries_fault e zero = refl
   tries_fault e (suc n) = ap (λ r. and_then r f) (tries_fault e n)
@@ -34,21 +34,12 @@ module _ {X : Type 0} (f : X → Result X Fault) where
   tries_stay x e (suc n) = ap (λ r. and_then r f) (tries_stay x e n) ∙ e
 
 module _ {X : Type 0} (x : X) (go : ℕ → Result (X × ℕ) Fault) (F : Bool × ℕ → Result (X × ℕ) Fault) (more : (m : ℕ) → F (true, m) ≡ go m) (end : (m : ℕ) → F (false, m) ≡ Ok (x, m)) where
-  onward_by : (k : ℕ) (space bracket : Bool) → and_then (cond space (Ok (true, k + 1)) (cond bracket (Ok (false, k + 1)) (wrong_at k))) F ≡ cond space (and_then (cond space (Ok (k + 1)) (wrong_at k)) go) (and_then (cond bracket (Ok (k + 1)) (wrong_at k)) (λ m. Ok (x, m)))
-  onward_by k true bracket = more (k + 1)
-  onward_by k false true = end (k + 1)
-  onward_by k false false = refl
-
   -- after a number
   pub onward_same : (k : ℕ) (o : Option ℕ) → and_then (onward_if k o) F ≡ cond (is_byte 32 o) (and_then (pass_if 32 k o) go) (and_then (pass_if 41 k o) (λ m. Ok (x, m)))
   onward_same k None = refl
-  onward_same k (Some b) = onward_by k (eqb b 32) (eqb b 41)
-
-  open_by : (m : ℕ) (bracket : Bool) → F (cond bracket (false, m + 1) (true, m)) ≡ cond bracket (and_then (cond bracket (Ok (m + 1)) (wrong_at m)) (λ k. Ok (x, k))) (go m)
-  open_by m true = end (m + 1)
-  open_by m false = more m
+  onward_same k (Some b) = grind (arith, more (k + 1), end (k + 1))
 
   -- after the opening bracket
   pub open_same : (m : ℕ) (o : Option ℕ) → F (empty_if m o) ≡ cond (is_byte 41 o) (and_then (pass_if 41 m o) (λ k. Ok (x, k))) (go m)
   open_same m None = more m
-  open_same m (Some b) = open_by m (eqb b 41)
+  open_same m (Some b) = grind (arith, more m, end (m + 1))

@@ -12,14 +12,15 @@ use Rattle.text.specs.declared.counts.Counts.{Counts}
 use Rattle.text.specs.declared.reader.Stage.TheVariants.{Start}
 use Rattle.grammar.specs.Pieces.{Care, shape, kept, Kept}
 use Rattle.grammar.specs.Agreement.{AtByte, Same, Shared, Between, Seen, ShapeOnly, Reads, Agrees}
-use Rattle.grammar.proofs.Agreeing.{Reaches, Via, agrees_then, shared_from, Any}
+use Rattle.grammar.proofs.Agreeing.{Reaches, Via, agrees_then, shared_from}
 use Rattle.grammar.proofs.Lines.{FormsAgree}
 use Rattle.grammar.proofs.Onward.{lines, Lines, lines_rest, start_lines, lines_agree}
 use Rattle.grammar.proofs.Places.{slice_get_front, between_none}
 use Rattle.grammar.proofs.Rests.{Rest, rest_spells, spells_rest, rest_roomy}
-use Rattle.grammar.proofs.Turned.{between_within, ended, whole, book_whole}
+use Rattle.grammar.proofs.Turned.{between_within, at_end, whole, book_whole}
 use Rattle.grammar.specs.Notations.{Notation}
 use Rattle.grammar.specs.Theorems.{SpeltBy}
+use Rattle.grammar.proofs.Following.{ended, unended}
 
 -- nothing follows
 abbrev Nothing : List ℕ → Type 0
@@ -43,28 +44,28 @@ module _ {S : Type 0} where
   abbrev Ended : Meaning S → Care → Meaning S → List ℕ → Type 0
   Ended m c k piece = (k ≡ m) × (piece ≡ [])
 
-  ended_reaches : (m : Meaning S) (at : ℕ) (o : Option ℕ) → Reaches at (ended m at o)
-  ended_reaches m at None = omega arith
-  ended_reaches m at (Some b) = omega arith
+  at_end_reaches : (m : Meaning S) (at : ℕ) (o : Option ℕ) → Reaches at (at_end m at o)
+  at_end_reaches m at None = omega arith
+  at_end_reaches m at (Some b) = omega arith
 
-  ended_seen : (m : Meaning S) (text : List ℕ) (at : ℕ) (o : Option ℕ) → Seen (Ended m) (ended m at o) text at
-  ended_seen m text at None = ([], between_none text at, (refl, refl))
-  ended_seen m text at (Some b) = ([], [], m, between_none text at, (refl, refl))
+  at_end_seen : (m : Meaning S) (text : List ℕ) (at : ℕ) (o : Option ℕ) → Seen (Ended m) (at_end m at o) text at
+  at_end_seen m text at None = ([], between_none text at, (refl, refl))
+  at_end_seen m text at (Some b) = ([], [], m, between_none text at, (refl, refl))
 
-  ended_reads : (m k : Meaning S) (c : Care) (piece rest text : List ℕ) (at : ℕ) → Ended m c k piece → rest ≡ [] → drop at text ≡ piece ++ rest → Reads c (ended m at (slice_get text at)) k (at + length piece)
-  ended_reads m k c piece rest text at h s d =
-      let none : drop at text ≡ [] = d ∙ ap (λ t. t ++ rest) h.1 ∙ s in
+  at_end_reads : (m k : Meaning S) (c : Care) (piece rest text : List ℕ) (at : ℕ) → Ended m c k piece → rest ≡ [] → drop at text ≡ piece ++ rest → Reads c (at_end m at (slice_get text at)) k (at + length piece)
+  at_end_reads m k c piece rest text at h s d =
+      let none : drop at text ≡ [] = grind (arith, d, h.1, s) in
       let place : at ≡ at + length piece = omega (arith, ap length h.1) in
-      inl (ap (ended m at) (slice_get_front text at ∙ ap (λ t. slice_get t 0) none) ∙ ap (λ y. Ok (y, at)) (sym h.0) ∙ ap (λ n. Ok (k, n)) place)
+      inl (ap (at_end m at) (slice_get_front text at ∙ ap (λ t. slice_get t 0) none) ∙ ap (λ y. Ok (y, at)) (sym h.0) ∙ ap (λ n. Ok (k, n)) place)
 
-  ended_agrees : (m : Meaning S) → Agrees (λ text at. ended m at (slice_get text at)) (Ended m) Nothing
-  ended_agrees m =
+  at_end_agrees : (m : Meaning S) → Agrees (λ text at. at_end m at (slice_get text at)) (Ended m) Nothing
+  at_end_agrees m =
       record {
         shaped = λ c k piece h. h;
         sample = (m, [], (refl, refl));
-        shared = λ text other at. shared_from text other at (ended m at (slice_get text at)) (ended m at (slice_get other at)) (ended_reaches m at (slice_get text at)) (λ same. ap (ended m at) (sym (same at (omega arith))));
-        seen = λ text at. ended_seen m text at (slice_get text at);
-        reads = λ c k piece rest text at. ended_reads m k c piece rest text at;
+        shared = λ text other at. shared_from text other at (at_end m at (slice_get text at)) (at_end m at (slice_get other at)) (at_end_reaches m at (slice_get text at)) (λ same. ap (at_end m at) (sym (same at (omega arith))));
+        seen = λ text at. at_end_seen m text at (slice_get text at);
+        reads = λ c k piece rest text at. at_end_reads m k c piece rest text at;
       }
 
   -- an answer's book
@@ -76,12 +77,12 @@ module _ {S : Type 0} where
   Ends text (Ok p) = slice_get text p.1 ≡ None
   Ends text (Err e) = Unit {0}
 
-  ended_ends : (text : List ℕ) (m : Meaning S) (at : ℕ) (o : Option ℕ) → slice_get text at ≡ o → Ends text (ended m at o)
-  ended_ends text m at None e = e
-  ended_ends text m at (Some b) e = tt
+  at_end_ends : (text : List ℕ) (m : Meaning S) (at : ℕ) (o : Option ℕ) → slice_get text at ≡ o → Ends text (at_end m at o)
+  at_end_ends text m at None e = e
+  at_end_ends text m at (Some b) e = tt
 
-  then_ends : (text : List ℕ) (r : Result (Meaning S × ℕ) Fault) → Ends text (and_then r (λ p. ended p.0 p.1 (slice_get text p.1)))
-  then_ends text (Ok p) = ended_ends text p.0 p.1 (slice_get text p.1) refl
+  then_ends : (text : List ℕ) (r : Result (Meaning S × ℕ) Fault) → Ends text (and_then r (λ p. at_end p.0 p.1 (slice_get text p.1)))
+  then_ends text (Ok p) = at_end_ends text p.0 p.1 (slice_get text p.1) refl
   then_ends text (Err e) = tt
 
   booked_fault : (r : Result (Meaning S × ℕ) Fault) (e : Fault) → booked r ≡ Err e → r ≡ Err e
@@ -92,7 +93,7 @@ module _ {S : Type 0} where
   booked_seen : (G : Care → Meaning S → List ℕ → Type 0) (text : List ℕ) (m : Meaning S) (r : Result (Meaning S × ℕ) Fault) → booked r ≡ Ok m → Ends text r → Seen G r text 0 → G kept m text
   booked_seen G text m (Ok p) e n (piece, b, g) =
       let none : drop p.1 text ≡ [] = front_none (drop p.1 text) (sym (slice_get_front text p.1) ∙ n) in
-      let all : piece ≡ text = sym (b.stands ∙ ap (λ t. piece ++ t) none ∙ append-nil piece) in
+      let all : piece ≡ text = grind (arith, b.stands, none, append-nil) in
       let same : p.0 ≡ m = cc in
       subst (λ k. G kept k text) same (subst (G kept p.0) all g)
   booked_seen G text m (Err d) e n h = absurd (grind arith)
@@ -125,19 +126,16 @@ module _ {S : Type 0} (kind : Notation S) (room : Counts) (forms : FormsAgree ki
 
   whole_agrees : (n : ℕ) → Agrees (whole kind room n) (Forms n) Nothing
   whole_agrees n =
-      agrees_then (lines kind room n Start 0 0) (λ at m text next. ended m next (slice_get text next)) (Lines kind room n Start 0 0) Ended Any Nothing
-      (lines_agree kind room forms n Start tt 0 0) (λ at m. ended_agrees m) (λ c m k piece rest h s. tt)
+      agrees_then
+      (lines_agree kind room forms n Start tt 0 0) (λ at m. at_end_agrees m) (λ c m k piece rest h s. tt)
 
   forms_rest : (n : ℕ) (c : Care) (m : Meaning S) (text : List ℕ) → Forms n c m text → Rest kind room Start 0 0 c m text
   forms_rest n c m text v =
-      let parts = v.parts in
-      let all : parts.front ≡ text = sym (parts.whole ∙ ap (λ t. parts.front ++ t) parts.second.1 ∙ append-nil parts.front) in
-      subst (λ k. Rest kind room Start 0 0 c k text) (sym parts.second.0)
-      (subst (Rest kind room Start 0 0 c v.value) all (lines_rest kind room n Start 0 0 c v.value parts.front parts.first))
+      subst (λ k. Rest kind room Start 0 0 c k text) (sym v.parts.second.0) (lines_rest kind room n Start 0 0 c v.value text (ended v.parts))
 
   rest_forms : (n : ℕ) (c : Care) (m : Meaning S) (text : List ℕ) → length m.atoms + length m.rules < n → Rest kind room Start 0 0 c m text → Forms (suc n) c m text
   rest_forms n c m text l h =
-      record { value = m; parts = record { front = text; back = []; whole = sym (append-nil text); first = start_lines kind room n 0 0 c m text l h; second = (refl, refl) } }
+      record { value = m; parts = unended refl (start_lines kind room n 0 0 c m text l h) }
 
   book_is : (text : List ℕ) (n : ℕ) → length text < n → book text ≡ booked (whole kind room n text 0)
   book_is text n l = book_whole kind room forms text n l
@@ -172,7 +170,7 @@ module _ {S : Type 0} (kind : Notation S) (room : Counts) (forms : FormsAgree ki
       )
 
   -- a byte is refused whatever follows it
-  pub book_shared : (text other : List ℕ) (k : ℕ) → book text ≡ Err (Reading (Byte k)) → Same text other k → book other ≡ Err (Reading (Byte k))
+  book_shared : (text other : List ℕ) (k : ℕ) → book text ≡ Err (Reading (Byte k)) → Same text other k → book other ≡ Err (Reading (Byte k))
   book_shared text other k e same =
       let n = length text + length other + 1 in
       let shared = subst (λ r. Shared r (whole kind room n other 0) text other) (whole_fault text n (omega arith) (Reading (Byte k)) e) ((whole_agrees n).shared text other 0) in

@@ -48,10 +48,15 @@ Reads c answer x next = (answer ≡ Ok (x, next)) ⊎ (ShapeOnly c × ((e : Faul
 
 -- reading by P is reading the pieces of G, where Stop holds of what follows them
 pub record Agrees {X : Type 0} (P : List ℕ → ℕ → Result (X × ℕ) Fault) (G : Care → X → List ℕ → Type 0) (Stop : List ℕ → Type 0) : Type 0 where
+  -- whatever rules a piece keeps, it has the shape
   pub shaped : (c : Care) (x : X) (piece : List ℕ) → G c x piece → G shape x piece
+  -- some piece has the shape
   pub sample : (x : X) × (piece : List ℕ) × G shape x piece
+  -- the answer goes only by the bytes up to its place
   pub shared : (text other : List ℕ) (at : ℕ) → Shared (P text at) (P other at) text other
+  -- what is passed over is a piece, or begins one
   pub seen : (text : List ℕ) (at : ℕ) → Seen G (P text at) text at
+  -- a piece is read as what it spells
   pub reads : (c : Care) (x : X) (piece rest text : List ℕ) (at : ℕ) → G c x piece → Stop rest → drop at text ≡ piece ++ rest → Reads c (P text at) x (at + length piece)
 
 -- a text that does not begin with a digit

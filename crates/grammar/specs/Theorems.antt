@@ -66,6 +66,7 @@ module _ {S : Type 0} (n : Notation S) where
     pub read : (atoms rules : ℕ) → Takes atoms rules m → read_as text atoms rules ≡ Ok m
     pub written : written_of m ≡ text
 
+  -- it is so of every such text
   abbrev pub CanonicalIsUnchanged : Type 0
   CanonicalIsUnchanged = (text : List ℕ) (m : Meaning S) → SpeltBy plain m text → Unchanged text m
 
@@ -81,6 +82,7 @@ module _ {S : Type 0} (n : Notation S) where
     pub plainly : SpeltBy plain m text → SpeltBy kept m text
     pub shapely : SpeltBy kept m text → SpeltBy shape m text
 
+  -- it is so of every text and book
   abbrev pub DegreesNest : Type 0
   DegreesNest = (m : Meaning S) (text : List ℕ) → Nested m text
 
