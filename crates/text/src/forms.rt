@@ -50,6 +50,8 @@ impl Cursor<'_> {
     }
 }
 
+// `Roomy` stands in the clauses of each reader of a form: it relates the room, the reader before the form, and the form, which no one type holds.
+// The cursor and the room are two parameters: the cursor moves, and the room stays.
 impl Reader {
     #[tactic(auto, unfolding(crate::specs::Forms::atom_at))]
     fn atom_form<S: Spelled>(

@@ -57,6 +57,7 @@ fn put<S: Spelled>(
 }
 
 // Goes over the text once more and writes its atoms and rules into the tables.
+// The tables are two parameters: with both in a struct, each clause and loop would have to keep besides that it lends the same places and lengths.
 fn fill<S: Spelled>(
     text: &[u8],
     room: Counts,

@@ -2,6 +2,7 @@
 ghost use Rattle.std.specs.Prelude.{◌+◌, ◌^◌, ◌<◌, ◌≤◌, cond, [], ◌++◌, length, decimal};
 
 // A sheet, and the place that is written next. What falls beyond the sheet's end is only counted.
+// No invariant bounds the place: each writing moves it, so each method's clauses do, and the count that `write` answers is exact.
 #[derive(Drop)]
 pub struct Sheet<'a> {
     pub bytes: &'a mut [u8],

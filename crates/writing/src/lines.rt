@@ -9,15 +9,6 @@ use books::book::{Book, Sign};
 use text::sheet::Sheet;
 use text::stamp::Spelled;
 
-// How many atoms of the sign the rule has; none where its number is vacant.
-fn count_in<B: Book>(book: &B, rule: usize, sign: Sign) -> usize
-    requires { Few (B.Book.meaning book.now) }
-    ensures value { result ≡ length (body_in sign (rule_at (B.Book.meaning book.now) rule)) }
-    ensures few { result ≤ 6 }
-{
-    book.body_count(rule, sign).unwrap_or(0)
-}
-
 // Number `i` of a list, after a space unless it is the first.
 fn put_item(i: usize, atom: Option<usize>, sheet: &mut Sheet<'_>)
     requires { sheet.old.at < 2 ^ 60 }
@@ -29,44 +20,11 @@ fn put_item(i: usize, atom: Option<usize>, sheet: &mut Sheet<'_>)
     }
 }
 
-// The rule's atoms of the sign, in brackets.
-fn put_body<B: Book>(book: &B, rule: usize, sign: Sign, sheet: &mut Sheet<'_>)
-    requires early { sheet.old.at < 2 ^ 59 }
-    requires few { Few (B.Book.meaning book.now) }
-    ensures wrote { Writes sheet.old (list_text (body_in sign (rule_at (B.Book.meaning book.now) rule))) sheet.new }
-    ensures short { sheet.new.at ≤ sheet.old.at + 128 }
-{
-    sheet.put(b"(");
-    // The book is asked by number: it is no collection. So are its atoms and rules below.
-    for i in 0..count_in(book, rule, sign) {
-        put_item(i, book.body_atom(rule, sign, i), sheet);
-    }
-    sheet.put(b")");
-}
-
 fn kind_word(reading: bool) -> &'static [u8]
     ensures value { result.now ≡ kind_text reading }
     ensures short { length result.now ≤ 5 }
 {
     if reading { b" in " } else { b" out " }
-}
-
-// (atom N K S)
-fn put_atom_line<B: Book>(book: &B, atom: usize, sheet: &mut Sheet<'_>)
-where
-    B::Stamp: Spelled,
-    requires { sheet.old.at < 2 ^ 58 }
-    ensures wrote { Writes sheet.old (atom_text B.Stamp.Spelled.spelt atom (slice_get (B.Book.meaning book.now).atoms atom)) sheet.new }
-    ensures short { sheet.new.at ≤ sheet.old.at + 2100 }
-{
-    let (Some(stamp), Some(reading)) = (book.stamp(atom), book.reading(atom)) else {
-        return;
-    };
-    sheet.put(b"(atom ");
-    sheet.number(atom);
-    sheet.put(kind_word(reading));
-    stamp.spell(sheet);
-    sheet.put(b")\n");
 }
 
 // (void N)
@@ -80,67 +38,111 @@ fn put_void_line(rule: usize, sheet: &mut Sheet<'_>)
     sheet.put(b")\n");
 }
 
-// (rule N H (P..) (Q..)), or (void N) for a vacant number.
-fn put_rule_line<B: Book>(book: &B, rule: usize, sheet: &mut Sheet<'_>)
-    requires early { sheet.old.at < 2 ^ 58 }
-    requires few { Few (B.Book.meaning book.now) }
-    ensures wrote { Writes sheet.old (rule_text rule (rule_at (B.Book.meaning book.now) rule)) sheet.new }
-    ensures short { sheet.new.at ≤ sheet.old.at + 400 }
-{
-    let Some(head) = book.head(rule) else {
-        return put_void_line(rule, sheet);
-    };
-    sheet.put(b"(rule ");
-    sheet.number(rule);
-    sheet.put(b" ");
-    sheet.number(head);
-    sheet.put(b" ");
-    put_body(book, rule, Sign::Positive, sheet);
-    sheet.put(b" ");
-    put_body(book, rule, Sign::Negative, sheet);
-    sheet.put(b")\n");
+// The lines of a book without gaps, which is small enough to be written.
+// The sheet is a parameter of its methods and no field: a method that writes would have to promise that the book stays.
+#[derive(Drop)]
+pub struct Lines<'b, B: Book> {
+    pub book: &'b B,
+    ghost atoms: { length (B.Book.meaning book.now).atoms ≤ 1024 },
+    ghost rules: { length (B.Book.meaning book.now).rules ≤ 1024 },
+    ghost few: { Few (B.Book.meaning book.now) },
 }
 
-fn put_atom_lines<B: Book>(book: &B, sheet: &mut Sheet<'_>)
-where
-    B::Stamp: Spelled,
-    requires early { sheet.old.at < 2 ^ 40 }
-    requires atoms { length (B.Book.meaning book.now).atoms ≤ 1024 }
-    ensures wrote { Writes sheet.old (up_to (atom_line_of B.Stamp.Spelled.spelt (B.Book.meaning book.now)) (length (B.Book.meaning book.now).atoms)) sheet.new }
-    ensures short { sheet.new.at ≤ sheet.old.at + 2150400 }
-{
-    for atom in 0..book.atom_count() {
-        put_atom_line(book, atom, sheet);
+impl<B: Book> Lines<'_, B> {
+    // How many atoms of the sign the rule has; none where its number is vacant.
+    fn count(&self, rule: usize, sign: Sign) -> usize
+        ensures value { result ≡ length (body_in sign (rule_at (B.Book.meaning self.now.book.now) rule)) }
+        ensures few { result ≤ 6 }
+    {
+        self.book.body_count(rule, sign).unwrap_or(0)
+    }
+
+    // The rule's atoms of the sign, in brackets.
+    fn body(&self, rule: usize, sign: Sign, sheet: &mut Sheet<'_>)
+        requires { sheet.old.at < 2 ^ 59 }
+        ensures wrote { Writes sheet.old (list_text (body_in sign (rule_at (B.Book.meaning self.now.book.now) rule))) sheet.new }
+        ensures short { sheet.new.at ≤ sheet.old.at + 128 }
+    {
+        sheet.put(b"(");
+        // The book is asked by number: it is no collection. So are its atoms and rules below.
+        for i in 0..self.count(rule, sign) {
+            put_item(i, self.book.body_atom(rule, sign, i), sheet);
+        }
+        sheet.put(b")");
+    }
+
+    // (rule N H (P..) (Q..)), or (void N) for a vacant number.
+    fn rule_line(&self, rule: usize, sheet: &mut Sheet<'_>)
+        requires { sheet.old.at < 2 ^ 58 }
+        ensures wrote { Writes sheet.old (rule_text rule (rule_at (B.Book.meaning self.now.book.now) rule)) sheet.new }
+        ensures short { sheet.new.at ≤ sheet.old.at + 400 }
+    {
+        let Some(head) = self.book.head(rule) else {
+            return put_void_line(rule, sheet);
+        };
+        sheet.put(b"(rule ");
+        sheet.number(rule);
+        sheet.put(b" ");
+        sheet.number(head);
+        sheet.put(b" ");
+        self.body(rule, Sign::Positive, sheet);
+        sheet.put(b" ");
+        self.body(rule, Sign::Negative, sheet);
+        sheet.put(b")\n");
+    }
+
+    fn rule_lines(&self, sheet: &mut Sheet<'_>)
+        requires { sheet.old.at < 2 ^ 40 }
+        ensures wrote { Writes sheet.old (up_to (rule_line_of (B.Book.meaning self.now.book.now)) (length (B.Book.meaning self.now.book.now).rules)) sheet.new }
+        ensures short { sheet.new.at ≤ sheet.old.at + 409600 }
+    {
+        for rule in 0..self.book.rule_count() {
+            self.rule_line(rule, sheet);
+        }
     }
 }
 
-fn put_rule_lines<B: Book>(book: &B, sheet: &mut Sheet<'_>)
-    requires early { sheet.old.at < 2 ^ 40 }
-    requires rules { length (B.Book.meaning book.now).rules ≤ 1024 }
-    requires few { Few (B.Book.meaning book.now) }
-    ensures wrote { Writes sheet.old (up_to (rule_line_of (B.Book.meaning book.now)) (length (B.Book.meaning book.now).rules)) sheet.new }
-    ensures short { sheet.new.at ≤ sheet.old.at + 409600 }
-{
-    for rule in 0..book.rule_count() {
-        put_rule_line(book, rule, sheet);
-    }
-}
-
-// The whole book from the sheet's first byte on, and its length.
-pub fn put_book<B: Book>(book: &B, bytes: &mut [u8]) -> usize
+impl<B: Book> Lines<'_, B>
 where
     B::Stamp: Spelled,
-    requires atoms { length (B.Book.meaning book.now).atoms ≤ 1024 }
-    requires rules { length (B.Book.meaning book.now).rules ≤ 1024 }
-    requires few { Few (B.Book.meaning book.now) }
-    ensures { Wrote bytes.old 0 (book_text B.Stamp.Spelled.spelling B.Stamp.Spelled.spelt (B.Book.meaning book.now)) bytes.new result }
 {
-    let mut sheet = Sheet { bytes, at: 0 };
-    sheet.put(b"(order ");
-    sheet.put(B::Stamp::word());
-    sheet.put(b")\n");
-    put_atom_lines(book, &mut sheet);
-    put_rule_lines(book, &mut sheet);
-    sheet.put(b"(end)\n");
-    sheet.at
+    // (atom N K S)
+    fn atom_line(&self, atom: usize, sheet: &mut Sheet<'_>)
+        requires { sheet.old.at < 2 ^ 58 }
+        ensures wrote { Writes sheet.old (atom_text B.Stamp.Spelled.spelt atom (slice_get (B.Book.meaning self.now.book.now).atoms atom)) sheet.new }
+        ensures short { sheet.new.at ≤ sheet.old.at + 2100 }
+    {
+        let (Some(stamp), Some(reading)) = (self.book.stamp(atom), self.book.reading(atom)) else {
+            return;
+        };
+        sheet.put(b"(atom ");
+        sheet.number(atom);
+        sheet.put(kind_word(reading));
+        stamp.spell(sheet);
+        sheet.put(b")\n");
+    }
+
+    fn atom_lines(&self, sheet: &mut Sheet<'_>)
+        requires { sheet.old.at < 2 ^ 40 }
+        ensures wrote { Writes sheet.old (up_to (atom_line_of B.Stamp.Spelled.spelt (B.Book.meaning self.now.book.now)) (length (B.Book.meaning self.now.book.now).atoms)) sheet.new }
+        ensures short { sheet.new.at ≤ sheet.old.at + 2150400 }
+    {
+        for atom in 0..self.book.atom_count() {
+            self.atom_line(atom, sheet);
+        }
+    }
+
+    // The whole book from the sheet's first byte on, and its length.
+    pub fn put_book(&self, bytes: &mut [u8]) -> usize
+        ensures { Wrote bytes.old 0 (book_text B.Stamp.Spelled.spelling B.Stamp.Spelled.spelt (B.Book.meaning self.now.book.now)) bytes.new result }
+    {
+        let mut sheet = Sheet { bytes, at: 0 };
+        sheet.put(b"(order ");
+        sheet.put(B::Stamp::word());
+        sheet.put(b")\n");
+        self.atom_lines(&mut sheet);
+        self.rule_lines(&mut sheet);
+        sheet.put(b"(end)\n");
+        sheet.at
+    }
 }

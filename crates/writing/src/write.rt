@@ -4,7 +4,7 @@ ghost use Rattle.text.specs.Spelt.{book_text};
 ghost use Rattle.writing.specs.Writes.{book_gap, write_answer, sheet_after};
 
 use crate::gaps::check_gaps;
-use crate::lines::put_book;
+use crate::lines::Lines;
 use books::book::Book;
 use books::fault::{Fault, MakeFault};
 use text::stamp::Spelled;
@@ -18,10 +18,11 @@ where
     ensures sheet { sheet.new ≡ sheet_after result (book_text B.Stamp.Spelled.spelling B.Stamp.Spelled.spelt (B.Book.meaning book.now)) sheet.old }
 {
     check_gaps(book)?;
+    let lines = Lines { book };
     let mut nothing = [0u8; 0];
-    let needed = put_book(book, &mut nothing);
+    let needed = lines.put_book(&mut nothing);
     if needed > sheet.len() {
         return Err(MakeFault::SheetTooShort { needed }.into());
     }
-    Ok(put_book(book, sheet))
+    Ok(lines.put_book(sheet))
 }

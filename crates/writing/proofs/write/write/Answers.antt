@@ -6,11 +6,8 @@ use Rattle.writing.specs.Writes.{book_gap}
 use Rattle.writing.proofs.Gapless.{few_everywhere}
 use Rattle.writing.proofs.write.write.Goals as goal
 
-pub put_book-requires-clause-few : goal.put_book-requires-clause-few
-put_book-requires-clause-few g c = let m = g.B.Book.meaning c.args.book.now in few_everywhere m (passed (book_gap m) c.in_ok-check_gaps.ensures)
-
-pub put_book-needed-requires-clause-few : goal.put_book-needed-requires-clause-few
-put_book-needed-requires-clause-few g c = let m = g.B.Book.meaning c.args.book.now in few_everywhere m (passed (book_gap m) c.in_ok-check_gaps.ensures)
+pub invariant_of-lines-clause-few : goal.invariant_of-lines-clause-few
+invariant_of-lines-clause-few g c = let m = g.B.Book.meaning c.args.book.now in few_everywhere m (passed (book_gap m) c.in_ok-check_gaps.ensures)
 
 pub returns-clause-sheet : goal.returns-clause-sheet
 returns-clause-sheet g c =
