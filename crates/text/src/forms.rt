@@ -1,7 +1,7 @@
 // Reading one form.
-ghost use Rattle.std.specs.Prelude.{◌≡◌, Ok, IfOk};
+ghost use Rattle.std.specs.Prelude.{◌≡◌, ◌<◌, Ok, IfOk, OnOk};
 ghost use Rattle.text.specs.Cursors.{Passed, Took, TookAs};
-ghost use Rattle.text.specs.Forms.{line_of, next_number, reading_at, atom_at, rule_form_at, void_at, refused_at, form_at};
+ghost use Rattle.text.specs.Forms.{line_of, if_room, next_number, reading_at, atom_at, rule_form_at, void_at, refused_at, form_at};
 ghost use Rattle.text.specs.Kinds.{atom_opening, rule_opening, void_opening};
 ghost use Rattle.text.specs.Words.{pass_word};
 ghost use Rattle.text.specs.Reads.{moved_by, Roomy, Stepped};
@@ -53,6 +53,22 @@ impl Cursor<'_> {
 // `Roomy` stands in the clauses of each reader of a form: it relates the room, the reader before the form, and the form, which no one type holds.
 // The cursor and the room are two parameters: the cursor moves, and the room stays.
 impl Reader {
+    // The number of one more form, where there is room for it.
+    fn numbered(
+        &self,
+        cursor: &mut Cursor<'_>,
+        count: usize,
+        room: usize,
+    ) -> Result<(), ReadFault>
+        ensures roomy { OnOk result (count < room) }
+        ensures value { Passed result cursor.old cursor.new (if_room self.now.next count room (next_number cursor.old.text.now count cursor.old.at)) }
+    {
+        if count >= room {
+            return Err(ReadFault::TooMany { place: self.next });
+        }
+        cursor.next_number(count)
+    }
+
     #[tactic(auto, unfolding(crate::specs::Forms::atom_at))]
     fn atom_form<S: Spelled>(
         &self,
@@ -63,10 +79,7 @@ impl Reader {
         ensures roomy { IfOk result (λ f. Roomy room self.now f) }
         ensures value { TookAs line_of result cursor.old cursor.new (atom_at S.Spelled.stamp_at cursor.old.text.now room self.now) }
     {
-        if self.atoms >= room.atoms {
-            return Err(ReadFault::TooMany { place: self.next });
-        }
-        cursor.next_number(self.atoms)?;
+        self.numbered(cursor, self.atoms, room.atoms)?;
         cursor.pass(b' ')?;
         let reading = cursor.reading()?;
         let stamp = S::stamp(cursor)?;
@@ -84,10 +97,7 @@ impl Reader {
         ensures roomy { IfOk result (λ f. Roomy room self.now f) }
         ensures value { TookAs line_of result cursor.old cursor.new (rule_form_at cursor.old.text.now room self.now) }
     {
-        if self.rules >= room.rules {
-            return Err(ReadFault::TooMany { place: self.next });
-        }
-        cursor.next_number(self.rules)?;
+        self.numbered(cursor, self.rules, room.rules)?;
         let row = cursor.rule(Site {
             form: self.next,
             rule: self.rules,
@@ -107,10 +117,7 @@ impl Reader {
         ensures roomy { IfOk result (λ f. Roomy room self.now f) }
         ensures value { TookAs line_of result cursor.old cursor.new (void_at cursor.old.text.now room self.now) }
     {
-        if self.rules >= room.rules {
-            return Err(ReadFault::TooMany { place: self.next });
-        }
-        cursor.next_number(self.rules)?;
+        self.numbered(cursor, self.rules, room.rules)?;
         cursor.word(CLOSING)?;
         Ok(Form::Rule(None))
     }
