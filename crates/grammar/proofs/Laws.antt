@@ -11,16 +11,16 @@ use Rattle.writing.specs.Writes.{book_gap, write_answer}
 use Rattle.grammar.specs.Notations.{Notation, ticks, routes, pairs}
 use Rattle.grammar.specs.Pieces.{kept}
 use Rattle.grammar.specs.Theorems.{read_as, written_of, ReadingIsTheGrammar, WrittenIsReadBack, AcceptedComesBack, CanonicalIsUnchanged, DegreesNest, AnswerIsItsOwn, RefusedAtTheFirstByte}
-use Rattle.grammar.proofs.Agreeing.{agrees_before}
-use Rattle.grammar.proofs.Aisled.{route_agrees}
-use Rattle.grammar.proofs.Books.{book_canonical, book_unique, spelt_held, spelt_gapless}
-use Rattle.grammar.proofs.Canonical.{tick_canonical, tick_unique, tick_fits, pair_canonical, pair_unique, pair_fits}
-use Rattle.grammar.proofs.Lines.{FormsAgree}
-use Rattle.grammar.proofs.Routes.{route_canonical, route_unique, route_fits}
-use Rattle.grammar.proofs.Staged.{forms_agree}
-use Rattle.grammar.proofs.Stamped.{tick_agrees, pair_agrees}
-use Rattle.grammar.proofs.Whole.{book_seen, book_reads, book_viable, book_none}
-use Rattle.grammar.proofs.Keeping.{plain_to_kept, to_shape, tick_eased, pair_eased, route_eased, book_eased}
+use Rattle.grammar.proofs.AgreeCombined.{agrees_before}
+use Rattle.grammar.proofs.RouteAgrees.{route_agrees}
+use Rattle.grammar.proofs.BookCanonical.{book_canonical, book_unique, spelt_held, spelt_gapless}
+use Rattle.grammar.proofs.PiecesCanonical.{tick_canonical, tick_unique, tick_fits, pair_canonical, pair_unique, pair_fits}
+use Rattle.grammar.proofs.FormsAllowed.{FormsAgree}
+use Rattle.grammar.proofs.RouteCanonical.{route_canonical, route_unique, route_fits}
+use Rattle.grammar.proofs.FormAtStage.{forms_agree}
+use Rattle.grammar.proofs.TickAndPairAgree.{tick_agrees, pair_agrees}
+use Rattle.grammar.proofs.BookAgrees.{book_seen, book_reads, book_viable, book_none}
+use Rattle.grammar.proofs.Degrees.{plain_to_kept, to_shape, tick_eased, pair_eased, route_eased, book_eased}
 use Rattle.grammar.specs.Lawful.{Lawful}
 
 -- ticks keep what is asked of a kind

@@ -6,13 +6,13 @@ use Rattle.models.specs.Stability.{Stable}
 use Rattle.models.specs.Moves.{start, reached, fed_by, model_of}
 use Rattle.models.specs.Sets.{State}
 use Rattle.models.specs.Theorems.{EachHasOneModel, RuledOutLasts, OpenMayCome, NothingTakenBack, DueGivesSafe, SweepingEnds, EndIsModel}
-use Rattle.models.proofs.Uniqueness.{unique}
-use Rattle.models.proofs.Lasting.{lasts_all}
-use Rattle.models.proofs.Founding.{founded_run}
-use Rattle.models.proofs.Keeping.{may_come}
-use Rattle.models.proofs.Progress as progress
-use Rattle.models.proofs.Settling.{model_stable, stable_end, held_in_model, out_of_model}
-use Rattle.models.proofs.Sequences.{after_all-append, may_then}
+use Rattle.models.proofs.OneModel.{unique}
+use Rattle.models.proofs.RuledOutStays.{lasts_all}
+use Rattle.models.proofs.HeldIsFounded.{founded_run}
+use Rattle.models.proofs.RunInvariants.{may_come}
+use Rattle.models.proofs.SafeFromDue as progress
+use Rattle.models.proofs.SettledIsModel.{model_stable, stable_end, held_in_model, out_of_model}
+use Rattle.models.proofs.MovesAppended.{after_all-append, may_then}
 use Rattle.models.specs.Verdicts.{ruled_out}
 use Rattle.stamps.specs.Orders.{IsLawful, Tests}
 use Rattle.std.specs.Bool.{IsTrue}

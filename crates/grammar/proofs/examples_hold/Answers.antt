@@ -1,4 +1,4 @@
-use Rattle.grammar.proofs.Examples.{examples_hold_lem}
+use Rattle.grammar.proofs.ExamplesComputed.{examples_hold_lem}
 use Rattle.grammar.proofs.examples_hold.Goals as goal
 
 pub returns : goal.returns

@@ -1,4 +1,4 @@
-use Rattle.grammar.proofs.Programmed.{program_refuses_there_lem}
+use Rattle.grammar.proofs.ProgramRefuses.{program_refuses_there_lem}
 use Rattle.grammar.proofs.program_refuses_there.Goals as goal
 
 pub returns : goal.returns

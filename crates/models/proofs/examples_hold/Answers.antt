@@ -1,4 +1,4 @@
-use Rattle.models.proofs.Shown.{examples_hold_lem}
+use Rattle.models.proofs.ExamplesComputed.{examples_hold_lem}
 use Rattle.models.proofs.examples_hold.Goals as goal
 
 pub returns : goal.returns

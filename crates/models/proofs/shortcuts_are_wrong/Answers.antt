@@ -1,4 +1,4 @@
-use Rattle.models.proofs.Shown.{shortcuts_are_wrong_lem}
+use Rattle.models.proofs.ExamplesComputed.{shortcuts_are_wrong_lem}
 use Rattle.models.proofs.shortcuts_are_wrong.Goals as goal
 
 pub returns : goal.returns
