@@ -17,10 +17,10 @@ pub struct Flat<'a, S> {
 
 impl<S> Flat<'_, S> {
     // The row of a rule; none beyond the table and where it is vacant.
-    fn rule(&self, rule: usize) -> Option<RuleRow>
-        ensures { option_map rule_of result ≡ rule_at (flat_meaning self.now.atoms.now self.now.rules.now) rule }
+    fn rule(&self, rule: usize) -> Option<&RuleRow>
+        ensures { option_map (λ row. rule_of row.now) result ≡ rule_at (flat_meaning self.now.atoms.now self.now.rules.now) rule }
     {
-        self.rules.get(rule).copied().flatten()
+        self.rules.get(rule)?.as_ref()
     }
 }
 
