@@ -54,12 +54,7 @@ impl Cursor<'_> {
 // The cursor and the room are two parameters: the cursor moves, and the room stays.
 impl Reader {
     // The number of one more form, where there is room for it.
-    fn numbered(
-        &self,
-        cursor: &mut Cursor<'_>,
-        count: usize,
-        room: usize,
-    ) -> Result<(), ReadFault>
+    fn numbered(&self, cursor: &mut Cursor<'_>, count: usize, room: usize) -> Result<(), ReadFault>
         ensures roomy { OnOk result (count < room) }
         ensures value { Passed result cursor.old cursor.new (if_room self.now.next count room (next_number cursor.old.text.now count cursor.old.at)) }
     {
