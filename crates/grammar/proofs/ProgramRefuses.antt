@@ -162,6 +162,7 @@ module _ {S T : Type 0} (n : Notation S) (other : Notation T) where
   other_none word apart text rest k o p e f a r l more h =
       none_past other apart text k p (ap (begins apart) e ∙ f) (omega (arith, a, ap (agreed apart) e, past_word n word text rest k o e r l)) l more h
 
+-- one lemma for each word, since each picks another of the three kinds
 refused_tick : (text : List ℕ) (k : ℕ) → begins tick_order text ≡ true → RefusedThere ticks text k → RefusedByAll text k
 refused_tick text k b r =
     let (rest, e) = begins_front tick_order text b in

@@ -40,6 +40,7 @@ impl Cursor<'_> {
     }
 
     // The place up to which the text agrees with a word.
+    // A loop: a chain that counts equal bytes would first have to take the rest of the text, which may not be there.
     pub(crate) fn agreed(&self, word: &[u8]) -> usize
         ensures { result ≡ agrees_to word.now self.now.text.now self.now.at }
     {

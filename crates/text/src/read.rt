@@ -24,7 +24,7 @@ fn survey<S: Spelled>(text: &[u8], room: Counts) -> Result<Reader, ReadFault>
     ensures { as_fault result ≡ survey_at S.Spelled.stamp_at S.Spelled.spelling text.now room }
 {
     let mut reader = START;
-    // A form has a byte at least, so as many turns as bytes are enough.
+    // A form has a byte at least, so as many turns as bytes are enough. A `while` would need that each form goes on, which each kind of stamp would have to promise.
     for _turn in 0..text.len() {
         if reader.is_finished(text) {
             break;

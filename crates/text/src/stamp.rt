@@ -15,7 +15,7 @@ use stamps::route::Route;
 use stamps::then::Then;
 use stamps::tick::Tick;
 
-// A kind of stamp that a text can hold.
+// A kind of stamp that a text can hold. Each has a spelling of its own, so no two of the impls below are one.
 pub trait Spelled: Order {
     // What follows the word of the order form.
     ghost spelling: { List ℕ };

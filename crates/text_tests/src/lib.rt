@@ -87,6 +87,7 @@ fn mark_rule() -> Option<RuleRow> {
     })
 }
 
+// A function for each kind: an array whose rows have a type parameter is not proved.
 fn tick_refusal(text: &[u8]) -> Option<Refusal> {
     refusal(text, &mut [mark_row::<Tick>(); 4], &mut [mark_rule(); 3])
 }
@@ -160,6 +161,7 @@ fn begins_with(sheet: &[u8], expected: &[u8], length: usize) -> bool {
 }
 
 // Lays two runs of bytes on a sheet, one after the other, and answers their length. What falls beyond the end is lost.
+// The bytes go by number, since the number is what is answered.
 fn laid(sheet: &mut [u8], first: &[u8], second: &[u8]) -> usize {
     let mut length = 0;
     for (i, byte) in first.iter().chain(second).enumerate().take(sheet.len()) {

@@ -15,6 +15,7 @@ fn place(tick: usize, ticks: usize, item: usize, items: usize) -> Option<usize>
     (tick < ticks && item < items).then(|| tick * items + item)
 }
 
+// Two functions over one body: what they say, each says of another list of the book.
 impl Repeating<'_> {
     // The atom of a slot at a tick; none where there is no such slot or tick.
     #[tactic(auto, using(crate::proofs::Making::few_atoms, crate::proofs::Ticks::ticks_at))]
