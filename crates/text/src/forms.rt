@@ -26,6 +26,7 @@ impl Cursor<'_> {
         ensures { Passed result self.old self.new (next_number self.old.text.now expected self.old.at) }
     {
         let place = self.at;
+        // The cast loses nothing: the number has 32 bits.
         if self.number(MAX_NUMBER)? as usize == expected {
             Ok(())
         } else {
@@ -146,6 +147,7 @@ impl Reader {
         ensures roomy { IfOk result (λ f. Roomy room self.now f) }
         ensures value { TookAs line_of result cursor.old cursor.new (form_at S.Spelled.stamp_at S.Spelled.spelling cursor.old.text.now room self.now) }
     {
+        // Stage and kind together: a form is read where both allow it.
         match (self.stage, cursor.opening()) {
             (Stage::Start, Some(Kind::Order)) => {
                 cursor.word(S::word())?;

@@ -19,6 +19,7 @@ impl Cursor<'_> {
         ensures value { Takes (λ more at. record { atoms = body_items body.new; more = more; next = at }) result self.old self.new (one_literal self.old.text.now site before (record { atoms = body_items body.old; more = true; next = self.old.at })) }
         ensures longer { OnOk result (length (body_items body.new) ≡ length (body_items body.old) + 1) }
     {
+        // The cast loses nothing: the number has 32 bits. So does the head's.
         let atom = self.number(MAX_NUMBER)? as usize;
         if body.push(atom).is_err() {
             return Err(ReadFault::TooMany { place: site.form });

@@ -33,6 +33,7 @@ impl Sheet<'_> {
         ensures wrote { Writes self.old (decimal number) self.new }
         ensures short { self.new.at ≤ self.old.at + 20 }
     {
+        // A digit is cast to a byte, which holds it.
         if number < 10 {
             self.put(&[b'0' + number as u8]);
             return;

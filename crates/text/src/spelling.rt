@@ -16,6 +16,7 @@ impl Sheet<'_> {
     {
         let bit = 1u64 << aisle;
         if aisles / bit % 2 == 1 {
+            // An aisle is below 64, so its cast loses nothing.
             self.list_number(aisles % bit == 0, aisle as usize);
         }
     }

@@ -46,6 +46,7 @@ impl Cursor<'_> {
     fn tick(&mut self) -> Result<Tick, ReadFault>
         ensures { Took result self.old self.new (tick_at self.old.text.now self.old.at) }
     {
+        // The limit is that of 32 bits.
         Ok(Tick(self.number(MAX_NUMBER)? as u32))
     }
 }
@@ -66,6 +67,7 @@ impl Spelled for Tick {
     }
 
     fn spell(&self, sheet: &mut Sheet<'_>) {
+        // 32 bits are cast to a `usize`, which has 64 here.
         sheet.number(self.0 as usize);
     }
 }
@@ -92,6 +94,7 @@ impl Spelled for Then<Tick, Tick> {
 
     fn spell(&self, sheet: &mut Sheet<'_>) {
         sheet.put(b"(");
+        // As of a tick, the casts lose nothing.
         sheet.number(self.first.0 as usize);
         sheet.put(b" ");
         sheet.number(self.second.0 as usize);

@@ -191,7 +191,7 @@ fn after_an_atom(form: &[u8]) -> Option<Refusal> {
 
 // A fault so many bytes from the bracket of the form after the atom.
 fn refused_there(number: u8, from_bracket: u8) -> Option<Refusal> {
-    refused_at(number, ATOM.len() + from_bracket as usize)
+    refused_at(number, ATOM.len() + usize::from(from_bracket))
 }
 
 #[test]

@@ -22,6 +22,7 @@ where
 }
 
 // Reads a text into the tables, checks its book, and writes it in canonical spelling. A refused sheet is untouched.
+// Text and sheet stay two parameters: one is given, the other is written.
 pub fn canonical<S: Spelled>(
     text: &[u8],
     atoms: &mut [AtomRow<S>],

@@ -45,7 +45,7 @@ fn put_refusal(refusal: Refusal, bytes: &mut [u8]) -> usize
 {
     let mut sheet = Sheet { bytes, at: 0 };
     sheet.put(b"(no ");
-    sheet.number(refusal.number as usize);
+    sheet.number(usize::from(refusal.number));
     sheet.put(b" ");
     put_values(refusal.values, &mut sheet);
     sheet.put(b")\n");

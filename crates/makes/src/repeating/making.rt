@@ -33,6 +33,7 @@ fn step_at(pattern: &Pattern, index: usize) -> Option<Step>
 }
 
 // One step: its slot is there, and it goes at most 3 ticks back.
+// Pattern and width are two parameters, here and where a pattern becomes a rule: neither is a part of the other.
 fn check_step(pattern: &Pattern, width: usize, number: usize, index: usize) -> Result<(), MakeFault>
     requires { index < 12 }
     ensures { result ≡ refused_by (option_and_then (step_fault width number index) (slice_get (steps pattern.now) index)) }
