@@ -78,12 +78,14 @@ module _ {S : Type 0} (tests : Tests S) (m : Meaning S) where
       by None none = record {
         accepts = λ _. none_accepted none;
         sound = λ _. grind arith;
+        checks = λ fault is. absurd (grind arith);
         refuses = λ f is. absurd (grind arith);
         first = λ f is. absurd (grind arith);
       }
       by (Some f) met = record {
         accepts = λ is. absurd (grind arith);
         sound = λ s. absurd (let none = sound_accepted s in grind arith);
+        checks = λ fault is. (f, grind arith);
         refuses = λ g is. (refused g (grind arith)).0;
         first = λ g is. (refused g (grind arith)).1;
       }

@@ -91,9 +91,10 @@ abbrev pub Precedes : CheckFault → CheckFault → Type 0
 Precedes g f =
     (of_counts f ≡ false) × ((of_counts g ≡ true) ⊎ ((rule_of g < rule_of f) ⊎ ((rule_of g ≡ rule_of f) × (step_of g < step_of f))))
 
--- the verdict accepts exactly the sound books, and a refusal names the first fault that the book has
+-- the verdict accepts exactly the sound books, and a refusal is one of the check and names the first fault that the book has
 pub record Judged {S : Type 0} (tests : Tests S) (m : Meaning S) (verdict : Result (Unit {0}) Fault) : Type 0 where
   pub accepts : verdict ≡ Ok tt → Sound tests m
   pub sound : Sound tests m → verdict ≡ Ok tt
+  pub checks : (e : Fault) → verdict ≡ Err e → (f : CheckFault) × (e ≡ Checking f)
   pub refuses : (f : CheckFault) → verdict ≡ Err (Checking f) → Breaks tests m f
   pub first : (f : CheckFault) → verdict ≡ Err (Checking f) → (g : CheckFault) → Precedes g f → Breaks tests m g → ⊥

@@ -5,10 +5,10 @@ use Rattle.books.specs.declared.fault.Fault.{Fault}
 use Rattle.books.specs.declared.fault.Fault.TheVariants.{Reading}
 use Rattle.text.specs.declared.cursor.Cursor.{Cursor}
 
--- what is found is what was taken, with the place after it, in the same text; or it is the fault
+-- what is found is what was taken, with the place after it, or it is the fault; and the text is the same
 abbrev pub Takes : {X Y : Type 0} → (X → ℕ → Y) → Result X ReadFault → Cursor → Cursor → Result Y Fault → Type 0
 Takes with_place (Ok x) was is found = (Ok (with_place x is.at) ≡ found) × (is.text.now ≡ was.text.now)
-Takes with_place (Err e) was is found = Err (Reading e) ≡ found
+Takes with_place (Err e) was is found = (Err (Reading e) ≡ found) × (is.text.now ≡ was.text.now)
 
 -- a place is found
 abbrev pub Passed : Result (Unit {0}) ReadFault → Cursor → Cursor → Result ℕ Fault → Type 0

@@ -19,8 +19,8 @@ pub returns-in_err-more-2-clause-value : goal.returns-in_err-more-2-clause-value
 returns-in_err-more-2-clause-value c =
     let i = c.loop-more.invariant in
     let p = err_from_is_err_and c.from_residual-in_err-more-2.result c.from_residual-in_err-more-2.ensures.1 in
-    let e = rw i.same at c.in_err-more-2.ensures.value in
-    rw (p.1, p.2) (body_refused _ _ _ _ _ i.reads c.loop-more-test.true _ c.in_ok-more.ensures.0 (few_items c.loop-more.body) _ e)
+    let e = rw i.same at c.in_err-more-2.ensures.value.0 in
+    rw (p.1, p.2) (body_refused _ _ _ _ _ i.reads c.loop-more-test.true _ c.in_ok-more.ensures.0 (few_items c.loop-more.body) _ e, c.in_err-more-2.ensures.value.1 ∙ i.same)
 
 pub returns-clause-value : goal.returns-clause-value
 returns-clause-value c =

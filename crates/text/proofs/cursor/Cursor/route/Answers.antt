@@ -22,22 +22,22 @@ pub returns-in_err-aisle : goal.returns-in_err-aisle
 returns-in_err-aisle c =
     let i = c.loop-more.invariant in
     let p = err_from_is_err_and c.from_residual-in_err-aisle.result c.from_residual-in_err-aisle.ensures.1 in
-    let e = rw i.same at c.in_err-aisle.ensures.value in
-    rw (p.1, p.2) (route_refused _ _ _ c.in_ok-more.ensures.0 _ i.risen _ (number_refused _ _ c.loop-more-test.true _ e))
+    let e = rw i.same at c.in_err-aisle.ensures.value.0 in
+    rw (p.1, p.2) (route_refused _ _ _ c.in_ok-more.ensures.0 _ i.risen _ (number_refused _ _ c.loop-more-test.true _ e), c.in_err-aisle.ensures.value.1 ∙ i.same)
 
 pub returns-then-aisle-least : goal.returns-then-aisle-least
 returns-then-aisle-least c =
     let i = c.loop-more.invariant in
     let e = rw i.same at c.in_ok-aisle.ensures.value.0 in
-    route_refused _ _ _ c.in_ok-more.ensures.0 _ i.risen _ (not_rising _ _ c.loop-more-test.true _ _ e c.if-aisle-least.true)
+    (route_refused _ _ _ c.in_ok-more.ensures.0 _ i.risen _ (not_rising _ _ c.loop-more-test.true _ _ e c.if-aisle-least.true), c.in_ok-aisle.ensures.value.1 ∙ i.same)
 
 pub returns-in_err-more-2 : goal.returns-in_err-more-2
 returns-in_err-more-2 c =
     let i = c.loop-more.invariant in
     let p = err_from_is_err_and c.from_residual-in_err-more-2.result c.from_residual-in_err-more-2.ensures.1 in
     let e = rw i.same at c.in_ok-aisle.ensures.value.0 in
-    let m = rw (c.in_ok-aisle.ensures.value.1 ∙ i.same) at c.in_err-more-2.ensures in
-    rw (p.1, p.2) (route_refused _ _ _ c.in_ok-more.ensures.0 _ i.risen _ (onward_refused _ _ c.loop-more-test.true _ _ e c.if-aisle-least.false _ m))
+    let m = rw (c.in_ok-aisle.ensures.value.1 ∙ i.same) at c.in_err-more-2.ensures.0 in
+    rw (p.1, p.2) (route_refused _ _ _ c.in_ok-more.ensures.0 _ i.risen _ (onward_refused _ _ c.loop-more-test.true _ _ e c.if-aisle-least.false _ m), c.in_err-more-2.ensures.1 ∙ (c.in_ok-aisle.ensures.value.1 ∙ i.same))
 
 pub returns : goal.returns
 returns c =

@@ -18,8 +18,8 @@ pub returns-in_err-pass : goal.returns-in_err-pass
 returns-in_err-pass c =
     let l = c.loop-byte in
     let p = err_from_is_err_and c.from_residual.result c.from_residual.ensures.1 in
-    let e = rw l.invariant.same at c.in_err-pass.ensures in
-    rw (p.1, p.2) (sym (passes_more c.args.word.now c.args.self.now.text.now l.self.at l.byte-index c.loop-byte-test.true _ e) ∙ l.invariant.left)
+    let e = rw l.invariant.same at c.in_err-pass.ensures.0 in
+    rw (p.1, p.2) (sym (passes_more c.args.word.now c.args.self.now.text.now l.self.at l.byte-index c.loop-byte-test.true _ e) ∙ l.invariant.left, c.in_err-pass.ensures.1 ∙ l.invariant.same)
 
 pub returns : goal.returns
 unfolding pass_word
