@@ -11,7 +11,7 @@ use writing::reply::{MAX_INPUT, Tables, reply};
 
 const TABLE: usize = 1024;
 
-// Standard input, or as much of it as shows that it is too long.
+// Standard input, or as much of it as shows that it is too long. The limit is a constant, so its cast loses nothing.
 fn input(rt: &HostRuntime) -> io::Result<Vec<u8>> {
     let mut text = Vec::new(rt.alloc());
     rt.stdin()

@@ -207,7 +207,7 @@ fn steps_reach_three_ticks_back(rt: HostRuntime) -> Result<(), Fail> {
     Ok(())
 }
 
-// What the check tells of these tables over 3 ticks, after a making over more ticks was refused.
+// What the check tells of the book of these tables over 3 ticks, where a making over more ticks is refused besides.
 fn told_after_refusal(slots: &[Slot], patterns: &[Pattern]) -> Result<Option<Refusal>, Fail> {
     let book = Repeating::make(slots, 3, patterns)?;
     if Repeating::make(slots, 1024, patterns).is_ok() {

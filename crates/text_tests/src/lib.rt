@@ -118,7 +118,7 @@ fn is_rule(row: &Option<RuleRow>, head: usize, positives: &[usize], negatives: &
     })
 }
 
-// A refusal of the reader, with the place of the fault.
+// A refusal of the reader, with the place of the fault; by its number, as the table of refusals has it.
 fn refused_at(number: u8, place: usize) -> Option<Refusal> {
     Some(Refusal {
         layer: Layer::Reading,

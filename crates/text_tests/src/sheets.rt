@@ -85,7 +85,7 @@ fn a_book_over_the_limits_is_not_written(rt: HostRuntime) {
     assert!(rt; is_too_large(&[], &[None; 1025]));
 }
 
-// The text is refused with this number, and the sheet stays.
+// The text is refused with this number of the table of refusals, and the sheet stays.
 fn leaves_the_sheet(text: &[u8], number: u8) -> bool {
     let mut sheet = [b'#'; 24];
     let mut atoms = [mark_row::<Tick>(); 4];

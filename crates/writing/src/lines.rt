@@ -64,7 +64,7 @@ impl<B: Book> Lines<'_, B> {
         ensures short { sheet.new.at ≤ sheet.old.at + 128 }
     {
         sheet.put(b"(");
-        // The book is asked by number: it is no collection. So are its atoms and rules below.
+        // The book is asked by number: it is no collection.
         for i in 0..self.count(rule, sign) {
             put_item(i, self.book.body_atom(rule, sign, i), sheet);
         }
@@ -91,6 +91,7 @@ impl<B: Book> Lines<'_, B> {
         sheet.put(b")\n");
     }
 
+    // By number, as `atom_lines`: a loop of one line each, where a closure over a sheet would need a contract longer than the loop.
     fn rule_lines(&self, sheet: &mut Sheet<'_>)
         requires { sheet.old.at < 2 ^ 40 }
         ensures wrote { Writes sheet.old (up_to (rule_line_of (B.Book.meaning self.now.book.now)) (length (B.Book.meaning self.now.book.now).rules)) sheet.new }
@@ -122,6 +123,7 @@ where
         sheet.put(b")\n");
     }
 
+    // By number, as `rule_lines`.
     fn atom_lines(&self, sheet: &mut Sheet<'_>)
         requires { sheet.old.at < 2 ^ 40 }
         ensures wrote { Writes sheet.old (up_to (atom_line_of B.Stamp.Spelled.spelt (B.Book.meaning self.now.book.now)) (length (B.Book.meaning self.now.book.now).atoms)) sheet.new }
