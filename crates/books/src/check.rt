@@ -7,10 +7,13 @@ use crate::book::Book;
 use crate::fault::Fault;
 use crate::walk::{Asked, walk, walk_rule};
 
+// The atoms that a book may have.
 pub const MAX_ATOMS: usize = 1024;
 
+// The rule numbers that a book may have, vacant ones included.
 pub const MAX_RULES: usize = 1024;
 
+// The atoms that each list of a rule may have.
 pub const MAX_BODY: usize = 6;
 
 // One rule number: lengths, head, then the literals, up to the first fault, which is the error. A vacant number passes.

@@ -1,5 +1,5 @@
 // The walk over a book's rules by number, up to the first fault.
-ghost use Rattle.std.specs.Prelude.{◌≡◌, ℕ, ◌<◌, ◌≤◌, Option, Some, cond, nat_lt};
+ghost use Rattle.std.specs.Prelude.{◌≡◌, ℕ, ◌<◌, Option, Some, if◌then◌else◌, nat_lt};
 ghost use Rattle.books.specs.Check.{Answers, first_below, refused_by, asked_tests, barred, literal_fault, rule_walk, book_walk};
 ghost use Rattle.books.specs.declared.book.Sign.TheVariants.{Positive, Negative};
 ghost use Rattle.books.specs.Meaning.{body_count_of, body_atom_of, literal_of};
@@ -57,7 +57,7 @@ impl<'b, B: Book> Walked<'b, B> {
     // The list and the place in it of literal `index`, positives first.
     #[tactic(auto, using(crate::proofs::Literals::literal_positive, crate::proofs::Literals::literal_negative))]
     fn place(&self, index: usize) -> (Sign, usize)
-        ensures sign { result.0 ≡ cond (nat_lt index self.now.positives) Positive Negative }
+        ensures sign { result.0 ≡ (if nat_lt index self.now.positives then Positive else Negative) }
         ensures atom { body_atom_of (B.Book.meaning self.now.book.now) self.now.rule result.0 result.1 ≡ literal_of (B.Book.meaning self.now.book.now) self.now.rule index }
     {
         if index < self.positives {

@@ -110,22 +110,14 @@ fn before(slot: usize) -> Step {
     Step { slot, back: 1 }
 }
 
-fn pattern(head: usize, positives: &[Step], negatives: &[Step]) -> Result<Pattern, TooLong> {
-    Ok(Pattern {
-        head,
-        positives: Body::of(positives)?,
-        negatives: Body::of(negatives)?,
-    })
-}
-
 // The same situation every tick: the grant leans on no closure one tick back.
 fn patterns() -> Result<[Pattern; 5], TooLong> {
     Ok([
-        pattern(2, &[now(1)], &[])?,
-        pattern(3, &[now(0)], &[before(2)])?,
-        pattern(4, &[now(0), now(2)], &[])?,
-        pattern(5, &[now(4)], &[])?,
-        pattern(4, &[now(5)], &[])?,
+        Pattern::of(2, &[now(1)], &[])?,
+        Pattern::of(3, &[now(0)], &[before(2)])?,
+        Pattern::of(4, &[now(0), now(2)], &[])?,
+        Pattern::of(5, &[now(4)], &[])?,
+        Pattern::of(4, &[now(5)], &[])?,
     ])
 }
 

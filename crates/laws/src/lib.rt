@@ -1,5 +1,6 @@
 // The laws that tie reading and writing to the grammar of the text, at every kind of stamp that the grammar has.
 // Each function below computes nothing: its contract is a theorem about the definitions of `grammar`'s specs/.
+// The notation is written out in each: a ghost member that holds it might differ from the members of `Spelled`.
 #![tactic(auto)]
 
 pub mod notated;

@@ -40,7 +40,7 @@ impl<B: Book> Struck<B> {
         has(&self.words, rule)
     }
 
-    // Makes a rule number vacant.
+    // Makes a rule number vacant. Refused with `RuleMissing`, and the set stays as it was, where the book below lacks the number or it is above 1,023.
     pub fn strike(&mut self, rule: usize) -> Result<(), Fault>
         ensures answer { result ≡ refused_by (option_map Making (strike_fault (B.Book.meaning self.old.below) rule)) }
         ensures below { self.new.below ≡ self.old.below }

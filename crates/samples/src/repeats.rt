@@ -14,14 +14,6 @@ fn step(slot: usize, back: usize) -> Step {
     Step { slot, back }
 }
 
-fn pattern(head: usize, positives: &[Step], negatives: &[Step]) -> Result<Pattern, TooLong> {
-    Ok(Pattern {
-        head,
-        positives: Body::of(positives)?,
-        negatives: Body::of(negatives)?,
-    })
-}
-
 const PLAIN: Slot = Slot {
     reading: false,
     stage: 0,
@@ -42,7 +34,7 @@ fn made(slots: &[Slot], ticks: usize, patterns: &[Pattern]) -> Option<Refusal> {
 #[test]
 fn a_slot_that_leans_on_no_self_one_tick_back(rt: HostRuntime) -> Result<(), Fail> {
     let slots = [PLAIN];
-    let patterns = [pattern(0, &[], &[step(0, 1)])?];
+    let patterns = [Pattern::of(0, &[], &[step(0, 1)])?];
     let book = Repeating::make(&slots, 3, &patterns)?;
     assert_eq!(rt; book.head(0), None);
     assert_eq!(rt; book.head(1), Some(1));
@@ -70,8 +62,8 @@ fn atoms_and_rules_are_numbered_by_tick(rt: HostRuntime) -> Result<(), Fail> {
         },
     ];
     let patterns = [
-        pattern(1, &[step(0, 0)], &[])?,
-        pattern(2, &[step(1, 0)], &[step(2, 3)])?,
+        Pattern::of(1, &[step(0, 0)], &[])?,
+        Pattern::of(2, &[step(1, 0)], &[step(2, 3)])?,
     ];
     let book = Repeating::make(&slots, 5, &patterns)?;
     assert_eq!(rt; book.atom_number(4, 2), Some(14));
@@ -100,9 +92,9 @@ fn atoms_and_rules_are_numbered_by_tick(rt: HostRuntime) -> Result<(), Fail> {
 fn counts_of_a_making_stand_at_their_limits(rt: HostRuntime) -> Result<(), Fail> {
     let slots = [PLAIN, PLAIN];
     let patterns = [
-        pattern(0, &[], &[])?,
-        pattern(1, &[], &[])?,
-        pattern(1, &[], &[])?,
+        Pattern::of(0, &[], &[])?,
+        Pattern::of(1, &[], &[])?,
+        Pattern::of(1, &[], &[])?,
     ];
     assert_eq!(rt; made(&slots, 512, &[]), None);
     assert_eq!(rt; made(&slots, 513, &[]), refused(3, 0, 0));
@@ -122,7 +114,7 @@ fn counts_of_a_making_stand_at_their_limits(rt: HostRuntime) -> Result<(), Fail>
 #[test]
 fn nothing_repeats(rt: HostRuntime) -> Result<(), Fail> {
     let slots = [PLAIN];
-    let patterns = [pattern(0, &[], &[])?];
+    let patterns = [Pattern::of(0, &[], &[])?];
     assert_eq!(rt; made(&slots, 0, &patterns), None);
     assert_eq!(rt; made(&slots, 4, &[]), None);
     assert_eq!(rt; made(&[], 4, &[]), None);
@@ -134,7 +126,7 @@ fn nothing_repeats(rt: HostRuntime) -> Result<(), Fail> {
 #[test]
 fn no_tick_is_an_empty_book(rt: HostRuntime) -> Result<(), Fail> {
     let slots = [PLAIN];
-    let patterns = [pattern(0, &[], &[])?];
+    let patterns = [Pattern::of(0, &[], &[])?];
     let book = Repeating::make(&slots, 0, &patterns)?;
     assert_eq!(rt; (book.atom_count(), book.rule_count()), (0, 0));
     assert_eq!(rt; told(&book), None);
@@ -144,16 +136,16 @@ fn no_tick_is_an_empty_book(rt: HostRuntime) -> Result<(), Fail> {
 #[test]
 fn a_missing_slot_is_told_by_pattern_and_literal(rt: HostRuntime) -> Result<(), Fail> {
     let slots = [PLAIN, PLAIN];
-    let good = pattern(1, &[step(0, 3), step(1, 0)], &[step(0, 3)])?;
+    let good = Pattern::of(1, &[step(0, 3), step(1, 0)], &[step(0, 3)])?;
     assert_eq!(rt;
-        made(&slots, 2, &[good, pattern(2, &[], &[])?]),
+        made(&slots, 2, &[good, Pattern::of(2, &[], &[])?]),
         refused(4, 1, 0)
     );
     assert_eq!(rt;
         made(
             &slots,
             2,
-            &[good, pattern(1, &[step(1, 0), step(2, 0)], &[])?],
+            &[good, Pattern::of(1, &[step(1, 0), step(2, 0)], &[])?],
         ),
         refused(4, 1, 2)
     );
@@ -161,7 +153,10 @@ fn a_missing_slot_is_told_by_pattern_and_literal(rt: HostRuntime) -> Result<(), 
         made(
             &slots,
             2,
-            &[good, pattern(1, &[step(1, 0)], &[step(0, 1), step(7, 1)])?],
+            &[
+                good,
+                Pattern::of(1, &[step(1, 0)], &[step(0, 1), step(7, 1)])?
+            ],
         ),
         refused(4, 1, 3)
     );
@@ -169,16 +164,23 @@ fn a_missing_slot_is_told_by_pattern_and_literal(rt: HostRuntime) -> Result<(), 
         made(
             &slots,
             2,
-            &[pattern(1, &[step(1, 4)], &[])?, pattern(9, &[], &[])?],
+            &[
+                Pattern::of(1, &[step(1, 4)], &[])?,
+                Pattern::of(9, &[], &[])?
+            ],
         ),
         refused(4, 0, 1)
     );
     assert_eq!(rt;
-        made(&slots, 2, &[pattern(0, &[], &[step(0, 0), step(0, 4)])?]),
+        made(
+            &slots,
+            2,
+            &[Pattern::of(0, &[], &[step(0, 0), step(0, 4)])?]
+        ),
         refused(4, 0, 2)
     );
     assert_eq!(rt;
-        made(&slots, 600, &[pattern(9, &[], &[])?]),
+        made(&slots, 600, &[Pattern::of(9, &[], &[])?]),
         refused(3, 0, 0)
     );
     Ok(())
@@ -194,8 +196,8 @@ fn steps_reach_three_ticks_back(rt: HostRuntime) -> Result<(), Fail> {
         },
     ];
     let patterns = [
-        pattern(1, &[step(0, 0)], &[])?,
-        pattern(1, &[step(0, 3)], &[])?,
+        Pattern::of(1, &[step(0, 0)], &[])?,
+        Pattern::of(1, &[step(0, 3)], &[])?,
     ];
     let book = Repeating::make(&slots, 5, &patterns)?;
     assert_eq!(rt; book.body_atom(0, Sign::Positive, 0), Some(0));
@@ -220,15 +222,15 @@ fn told_after_refusal(slots: &[Slot], patterns: &[Pattern]) -> Result<Option<Ref
 fn a_repeating_book_may_fail_the_check(rt: HostRuntime) -> Result<(), Fail> {
     let slots = [READING, PLAIN];
     assert_eq!(rt;
-        told_after_refusal(&slots, &[pattern(1, &[], &[step(1, 0)])?])?,
+        told_after_refusal(&slots, &[Pattern::of(1, &[], &[step(1, 0)])?])?,
         refused(7, 0, 1)
     );
     assert_eq!(rt;
-        told_after_refusal(&slots, &[pattern(0, &[], &[])?])?,
+        told_after_refusal(&slots, &[Pattern::of(0, &[], &[])?])?,
         refused(5, 0, 0)
     );
     assert_eq!(rt;
-        told_after_refusal(&slots, &[pattern(1, &[], &[step(1, 1)])?])?,
+        told_after_refusal(&slots, &[Pattern::of(1, &[], &[step(1, 1)])?])?,
         None
     );
     Ok(())
@@ -237,7 +239,7 @@ fn a_repeating_book_may_fail_the_check(rt: HostRuntime) -> Result<(), Fail> {
 #[test]
 fn a_struck_number_is_vacant(rt: HostRuntime) -> Result<(), Fail> {
     let slots = [READING, PLAIN];
-    let patterns = [pattern(1, &[step(0, 0)], &[])?];
+    let patterns = [Pattern::of(1, &[step(0, 0)], &[])?];
     let below = Repeating::make(&slots, 100, &patterns)?;
     let mut book = Struck::over(below);
     book.strike(65)?;
@@ -259,7 +261,7 @@ fn a_struck_number_is_vacant(rt: HostRuntime) -> Result<(), Fail> {
 #[test]
 fn striking_what_is_not_there_changes_nothing(rt: HostRuntime) -> Result<(), Fail> {
     let slots = [READING, PLAIN];
-    let patterns = [pattern(1, &[step(0, 0)], &[])?];
+    let patterns = [Pattern::of(1, &[step(0, 0)], &[])?];
     let below = Repeating::make(&slots, 3, &patterns)?;
     let mut book = Struck::over(below);
     book.strike(2)?;
@@ -283,8 +285,8 @@ fn striking_what_is_not_there_changes_nothing(rt: HostRuntime) -> Result<(), Fai
 fn a_struck_book_stands_over_a_struck_book(rt: HostRuntime) -> Result<(), Fail> {
     let slots = [READING, PLAIN];
     let patterns = [
-        pattern(1, &[step(0, 0)], &[])?,
-        pattern(1, &[], &[step(1, 0)])?,
+        Pattern::of(1, &[step(0, 0)], &[])?,
+        Pattern::of(1, &[], &[step(1, 0)])?,
     ];
     let below = Repeating::make(&slots, 2, &patterns)?;
     let mut inner = Struck::over(below);

@@ -40,7 +40,7 @@ impl Cursor<'_> {
     }
 
     // The place up to which the text agrees with a word.
-    // A loop: a chain that counts equal bytes would first have to take the rest of the text, which may not be there.
+    // A loop: a chain that counts equal bytes says nothing of the place in the words of `agrees_to`.
     pub(crate) fn agreed(&self, word: &[u8]) -> usize
         ensures { result ≡ agrees_to word.now self.now.text.now self.now.at }
     {

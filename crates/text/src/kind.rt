@@ -5,6 +5,7 @@ ghost use Rattle.text.specs.Words.{pass_word};
 
 use crate::cursor::Cursor;
 
+// What a form says is told by its kind; the words are those of `opening`.
 #[derive(Clone, Copy)]
 pub enum Kind {
     Order,
@@ -15,6 +16,7 @@ pub enum Kind {
 }
 
 // The kind of form that the bytes begin, told by its word and the byte after it.
+// By slice patterns and not by a search over `opening`: the patterns tell it with no lemma on how bytes begin.
 fn told(line: &[u8]) -> Option<Kind>
     ensures { result ≡ kind_of line.now }
 {

@@ -6,7 +6,8 @@ ghost use Rattle.text.specs.Cursors.{Took};
 use crate::cursor::Cursor;
 use books::fault::ReadFault;
 
-// The largest number of a text, but for aisles. What is read is cast where it is used: the limit is proved, so a conversion that may fail would have nothing to refuse.
+// The largest number of a text, but for aisles. What is read is cast where it is used:
+// the limit is proved, so a conversion that may fail would have nothing to refuse.
 pub const MAX_NUMBER: u64 = 4_294_967_295;
 
 // The digits that a number may have.

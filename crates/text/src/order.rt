@@ -4,6 +4,7 @@ ghost use Rattle.text.specs.Orders.{word_of, order_refused};
 
 use crate::cursor::Cursor;
 
+// The kinds of stamps that an order form can name.
 #[derive(Clone, Copy)]
 pub enum Word {
     Tick,

@@ -24,7 +24,8 @@ fn survey<S: Spelled>(text: &[u8], room: Counts) -> Result<Reader, ReadFault>
     ensures { as_fault result ≡ survey_at S.Spelled.stamp_at S.Spelled.spelling text.now room }
 {
     let mut reader = START;
-    // A form has a byte at least, so as many turns as bytes are enough. A `while` would need that each form goes on, which each kind of stamp would have to promise.
+    // A form has a byte at least, so as many turns as bytes are enough.
+    // A `while` would need that each form goes on, which each kind of stamp would have to promise.
     for _turn in 0..text.len() {
         if reader.is_finished(text) {
             break;
@@ -69,6 +70,7 @@ fn fill<S: Spelled>(
     ensures { FilledBy (progress_at S.Spelled.stamp_at S.Spelled.spelling text.now room) result atoms.old atoms.new rules.old rules.new }
 {
     let mut reader = START;
+    // As many turns as in `survey`. One loop for both would take a closure that writes the tables, and say of each turn what it wrote.
     for _turn in 0..text.len() {
         if reader.is_finished(text) {
             break;

@@ -1,8 +1,9 @@
 // A sheet, and the bytes and numbers that are written on it.
-ghost use Rattle.std.specs.Prelude.{◌+◌, ◌^◌, ◌<◌, ◌≤◌, cond, [], ◌++◌, length, decimal};
+ghost use Rattle.std.specs.Prelude.{◌+◌, ◌^◌, ◌<◌, ◌≤◌, if◌then◌else◌, [], ◌++◌, length, decimal};
 
 // A sheet, and the place that is written next. What falls beyond the sheet's end is only counted.
 // No invariant bounds the place: each writing moves it, so each method's clauses do, and the count that `write` answers is exact.
+// What is written and how far the place moves are two clauses: the outermost call needs the first alone.
 #[derive(Drop)]
 pub struct Sheet<'a> {
     pub bytes: &'a mut [u8],
@@ -20,6 +21,7 @@ impl Sheet<'_> {
     {
         for byte in bytes {
             // Not `get_mut`: a proof has no lasting name for what the lent byte holds in the end.
+            // Not `copy_from_slice` of what fits: the place counts on beyond the end, so two cases would be told apart.
             if self.at < self.bytes.len() {
                 self.bytes[self.at] = *byte;
             }
@@ -45,7 +47,7 @@ impl Sheet<'_> {
     // Writes a number of a list, after a space unless it is the first.
     pub fn list_number(&mut self, first: bool, number: usize)
         requires { self.old.at < 2 ^ 61 }
-        ensures wrote { Writes self.old (cond first [] space ++ decimal number) self.new }
+        ensures wrote { Writes self.old ((if first then [] else space) ++ decimal number) self.new }
         ensures short { self.new.at ≤ self.old.at + 21 }
     {
         if !first {

@@ -11,7 +11,7 @@ use makes::rows::{AtomRow, RuleRow};
 use text::read::read;
 use text::stamp::Spelled;
 
-// Writes a book that passes the check.
+// Writes a book that passes the check. Refused as `check` does, and then as `write` does; a refused sheet is untouched.
 pub fn write_checked<B: Book>(book: &B, sheet: &mut [u8]) -> Result<usize, Fault>
 where
     B::Stamp: Spelled,
@@ -21,7 +21,8 @@ where
     write(book, sheet)
 }
 
-// Reads a text into the tables, checks its book, and writes it in canonical spelling. A refused sheet is untouched.
+// Reads a text into the tables, checks its book, and writes it in canonical spelling.
+// Refused as `read`, `check` and `write` do, in this order. A refused sheet is untouched.
 // Text and sheet stay two parameters: one is given, the other is written.
 pub fn canonical<S: Spelled>(
     text: &[u8],

@@ -39,6 +39,7 @@ fn put_void_line(rule: usize, sheet: &mut Sheet<'_>)
 }
 
 // The lines of a book without gaps, which is small enough to be written.
+// The words of the forms are written out, as the definition of each line has them; the reader's are private to `text`.
 // The sheet is a parameter of its methods and no field: a method that writes would have to promise that the book stays.
 #[derive(Drop)]
 pub struct Lines<'b, B: Book> {

@@ -10,6 +10,7 @@ use books::fault::{Fault, MakeFault};
 use text::stamp::Spelled;
 
 // Writes the book from the sheet's first byte on, and answers the text's length.
+// Refused as the check does for counts, lists that are too long and atoms that are not there, and then with `SheetTooShort`.
 // A refused sheet is untouched; bytes beyond the text stay.
 pub fn write<B: Book>(book: &B, sheet: &mut [u8]) -> Result<usize, Fault>
 where

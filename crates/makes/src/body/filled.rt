@@ -6,6 +6,7 @@ use crate::body::{Body, TooLong};
 use books::check::MAX_BODY;
 
 impl<T: Copy + Default> Body<T> {
+    // A body without items.
     pub fn empty() -> Body<T>
         ensures { body_items result ≡ [] }
     {
@@ -20,6 +21,7 @@ impl<T: Copy + Default> Body<T> {
         requires { length items.now ≤ 6 }
         ensures { body_items result ≡ items.now }
     {
+        // Not `collect`, which would allocate.
         let mut places = [T::default(); 6];
         places[..items.len()].copy_from_slice(items);
         Body {

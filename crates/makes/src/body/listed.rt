@@ -6,12 +6,14 @@ ghost use Rattle.makes.specs.Bodies.{body_items};
 use crate::body::Body;
 
 impl<T: Copy> Body<T> {
+    // How many items there are.
     pub fn count(&self) -> usize
         ensures { result ≡ length (body_items self.now) }
     {
         self.len
     }
 
+    // The items in order.
     pub fn as_slice(&self) -> &[T]
         ensures { result.now ≡ body_items self.now }
     {

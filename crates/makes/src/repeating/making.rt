@@ -1,9 +1,8 @@
 // Making a repeating book, with its limits.
-ghost use Rattle.std.specs.Prelude.{◌≡◌, ◌*◌, ◌<◌, ◌≤◌, [], length, nat_le, Err, None, OnOk, IfErr, IfOk};
+ghost use Rattle.std.specs.Prelude.{◌≡◌, ◌*◌, ◌<◌, [], length, nat_le, Err, None, OnOk, IfErr, IfOk};
 ghost use Rattle.std.specs.List.{slice_get};
 ghost use Rattle.books.specs.Check.{refused_by};
 ghost use Rattle.std.specs.Option.{option_and_then};
-ghost use Rattle.makes.specs.Bodies.{body_items};
 ghost use Rattle.makes.specs.Repeats.{step_fault, steps, pattern_fault, patterns_fault, making_fault, repeating_meaning};
 
 use crate::patterns::{Pattern, Slot, Step};
@@ -72,7 +71,7 @@ fn check_patterns(patterns: &[Pattern], width: usize) -> Result<(), MakeFault>
 }
 
 impl<'a> Repeating<'a> {
-    // The book without slots, patterns and ticks.
+    // The book without slots, patterns and ticks. No program here begins with it; it is there for one that has no tables yet.
     pub fn empty() -> Repeating<'a>
         ensures { (result.slots.now ≡ []) × (result.ticks ≡ 0) × (result.patterns.now ≡ []) }
     {
@@ -83,7 +82,8 @@ impl<'a> Repeating<'a> {
         }
     }
 
-    // The book of these tables over so many ticks.
+    // The book of these tables over so many ticks. Refused with `TooLarge` where slots or patterns times ticks are above 1,024,
+    // and else with `SlotMissing` at the first pattern and literal whose slot is not there or whose step goes more than 3 ticks back.
     pub fn make(
         slots: &'a [Slot],
         ticks: usize,
