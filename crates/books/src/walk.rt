@@ -35,7 +35,7 @@ pub fn first_refusal<E, F: Fn(usize) -> Result<(), E>>(count: usize, test: F) ->
     requires { (i : ℕ) → i < count → F.pre test i }
     ensures { (fault_at : ℕ → Option E) → Answers (F.post test) count fault_at → result ≡ refused_by (first_below count fault_at) }
 {
-    // A loop and no `try_for_each`, whose clauses have no word for the first refusal.
+    // A loop: with `try_for_each` the proof does not close (tried), since its clauses have no word for the first refusal.
     for i in 0..count {
         test(i)?;
     }
