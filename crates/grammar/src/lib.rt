@@ -8,6 +8,7 @@ ghost use Rattle.grammar.specs.Examples.{ExamplesHold};
 ghost use Rattle.grammar.specs.Programs.{ProgramRefusesThere};
 
 // What the definitions say of small texts.
+#[tactic(auto, using(crate::proofs::ExamplesComputed::examples_hold_lem))]
 pub fn examples_hold()
     ensures { ExamplesHold }
 {}

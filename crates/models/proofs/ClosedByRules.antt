@@ -4,7 +4,8 @@ use Rattle.books.specs.Meaning.{Rule, Meaning, rule_at}
 use Rattle.std.specs.Option.{option_and_then}
 use Rattle.models.specs.Sets.{Set}
 use Rattle.models.specs.Stability.{reduced, Closed}
-use Rattle.models.proofs.TrueTests.{false_in, never}
+use Rattle.std.proofs.lemmas.Bool.{false_from_ne_true}
+use Rattle.models.proofs.TrueTests.{never}
 use Rattle.std.specs.Bool.{IsTrue}
 use Rattle.std.specs.List.{list_all, list_any}
 
@@ -30,7 +31,7 @@ module _ {S : Type 0} (m : Meaning S) (M X : Set) where
 
   pub closed_out : Closed m M X → Leads
   closed_out closed k r e ps ns =
-      closed k (bare r) (ap (option_and_then (reduced M)) e ∙ kept_in (list_any M r.negatives) (bare r) (false_in (list_any M r.negatives) ns)) ps
+      closed k (bare r) (ap (option_and_then (reduced M)) e ∙ kept_in (list_any M r.negatives) (bare r) (false_from_ne_true (list_any M r.negatives) ns)) ps
 
   pub closed_in : Leads → Closed m M X
   closed_in leads k r e ps =

@@ -9,7 +9,8 @@ use Rattle.models.specs.Verdicts.{is_reading, holds, pending, safe, ruled_out}
 use Rattle.models.specs.Stability.{ReadingsOf}
 use Rattle.models.specs.Moves.{Move, feed, close, take, sweep, start, may, after, after_all, may_all, reached, feeds, closes, fed_by}
 use Rattle.models.specs.Sets.{State}
-use Rattle.models.proofs.TrueTests.{and_in, and_left, and_right, or_left, or_right, or_out, not_in, either, or_assoc, never}
+use Rattle.std.proofs.Math.Bool.{or_assoc}
+use Rattle.models.proofs.TrueTests.{and_in, and_left, and_right, or_left, or_right, or_out, not_in, either, never}
 use Rattle.models.proofs.ListMembers.{every_within}
 use Rattle.models.proofs.BookOrder.{Headed}
 use Rattle.models.proofs.VerdictFacts.{Ready, holds_held, ready_out, safe_rule, unblocked, unblocked_ready, unblocked_free, blocked_in, ruled_in}

@@ -3,7 +3,8 @@ use Rattle.std.proofs.Common.{◌≡◌, ℕ, true, ◌||◌, List, [], ◌∷�
 use Rattle.books.specs.Meaning.{Meaning}
 use Rattle.models.specs.Moves.{Move, may, after, after_all, may_all, feeds, closes, fed_by, closed_by}
 use Rattle.models.specs.Sets.{State}
-use Rattle.models.proofs.TrueTests.{and_in, and_left, and_right, or_assoc}
+use Rattle.std.proofs.Math.Bool.{or_assoc}
+use Rattle.models.proofs.TrueTests.{and_in, and_left, and_right}
 use Rattle.std.specs.Bool.{IsTrue}
 use Rattle.stamps.specs.Orders.{Tests}
 

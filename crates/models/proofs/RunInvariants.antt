@@ -7,7 +7,7 @@ use Rattle.models.specs.Verdicts.{passes, in_book, is_reading, is_derived, ready
 use Rattle.models.specs.Stability.{ReadingsOf}
 use Rattle.models.specs.Moves.{Move, feed, close, take, sweep, start, may, after, after_all, may_all, Run, reached, feeds, closes, fed_by, closed_by, Outcome}
 use Rattle.models.specs.Sets.{State}
-use Rattle.models.proofs.TrueTests.{and_left, and_right, or_left, or_right, or_out, not_out, false_in, never}
+use Rattle.models.proofs.TrueTests.{and_left, and_right, or_left, or_right, or_out, not_out, never}
 use Rattle.models.proofs.BookOrder.{Headed}
 use Rattle.models.proofs.OneModel.{head_derived}
 use Rattle.models.proofs.VerdictFacts.{ready_out, due_rule}
@@ -16,7 +16,7 @@ use Rattle.models.proofs.HeldIsFounded.{Founded, fed_open, founded_run}
 use Rattle.models.proofs.SettledIsModel.{held_in_book_lem}
 use Rattle.stamps.specs.Orders.{IsLawful, Tests}
 use Rattle.std.specs.Bool.{IsTrue}
-use Rattle.std.proofs.lemmas.Bool.{eqb-true}
+use Rattle.std.proofs.lemmas.Bool.{eqb-true, false_from_ne_true}
 
 -- no atom is both a reading and derived
 pub not_both : {S : Type 0} (m : Meaning S) (a : ℕ) → IsTrue (is_reading m a) → IsTrue (is_derived m a) → ⊥
@@ -136,7 +136,7 @@ module _ {S : Type 0} {tests : Tests S} (laws : IsLawful tests) {m : Meaning S} 
   may_come xs run come within = record {
     readings_only = λ a h. ⊎_elim (founded.readings a) (λ e. founded.opens a (within a e)) (or_out (fed_by xs a) (come a) h);
     fed = λ a f. or_left (fed_by xs a) (come a) f;
-    none_closed = λ a c. false_in (fed_by xs a || come a) (λ h. ⊎_elim
+    none_closed = λ a c. false_from_ne_true (fed_by xs a || come a) (λ h. ⊎_elim
         (λ f. fed_not_closed tests m (start m) xs run a f c)
         (λ e. closed_not_open tests m (start m) xs run a c (within a e))
         (or_out (fed_by xs a) (come a) h));

@@ -6,7 +6,8 @@ use Rattle.models.specs.Sets.{some_below}
 use Rattle.models.specs.Verdicts.{in_book, holds, ready, due, pending, blocked, safe, ruled_out}
 use Rattle.models.specs.Moves.{sweep, after, after_all, may_all, sweeps, NothingOpen, NothingDue}
 use Rattle.models.specs.Sets.{State}
-use Rattle.models.proofs.TrueTests.{or_right, not_in, not_out, either, false_in, false_out}
+use Rattle.std.proofs.lemmas.Bool.{false_from_ne_true}
+use Rattle.models.proofs.TrueTests.{or_right, not_in, not_out, either, false_out}
 use Rattle.models.proofs.ListMembers.{some_with, below_in, below_out}
 use Rattle.models.proofs.SetCounts.{count_below, count_less, count_top, count_some}
 use Rattle.models.proofs.BookOrder.{Headed, place, derived_in_book, reflexive, strict_right, depth, deeper}
@@ -67,7 +68,7 @@ module _ {S : Type 0} {tests : Tests S} (laws : IsLawful tests) {m : Meaning S} 
 
   -- with nothing open and nothing due, sweeps make nothing due
   stays_done : (s : State) → NothingOpen s → NothingDue m s → (n : ℕ) → NothingDue m (after_all tests m s (sweeps n))
-  stays_done s shut idle n a = false_in (due m end a) (λ d.
+  stays_done s shut idle n a = false_from_ne_true (due m end a) (λ d.
       ruled_none m end tests a
       (lasts_all laws sound s (sweeps n) (may_sweep tests m n s) a (out d)) a
       (pending_due m end a d)
@@ -101,7 +102,7 @@ module _ {S : Type 0} {tests : Tests S} (laws : IsLawful tests) {m : Meaning S} 
       (holds_in m next b.0 there (or_right (s.held b.0) (safe tests m s b.0) b.1)))
 
   ends_within : (n : ℕ) (s : State) → NothingOpen s → unheld s ≤ n → NothingDue m (after_all tests m s (sweeps n))
-  ends_within zero s shut l a = false_in (due m s a) (λ d.
+  ends_within zero s shut l a = false_from_ne_true (due m s a) (λ d.
       let q : 0 < unheld s = count_some (length m.atoms) (λ c. not (holds m s c)) a
       (place m a (due_in_book m s a d)) (not_in (holds m s a) (due_unheld m s a d)) in
       omega arith)
@@ -111,7 +112,7 @@ module _ {S : Type 0} {tests : Tests S} (laws : IsLawful tests) {m : Meaning S} 
       let q : unheld (after tests m s sweep) < unheld s = holds_more s shut w.0 w.2 in
       ends_within n (after tests m s sweep) shut (omega arith) a)
       (λ f. stays_done s shut
-      (λ b. false_in (due m s b) (λ d. f (below_in (length m.atoms) (due m s) b (place m b (due_in_book m s b d)) d)))
+      (λ b. false_from_ne_true (due m s b) (λ d. f (below_in (length m.atoms) (due m s) b (place m b (due_in_book m s b d)) d)))
       (suc n) a)
       (either (some_below (length m.atoms) (due m s)))
 

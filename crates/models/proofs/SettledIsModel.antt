@@ -8,7 +8,9 @@ use Rattle.models.specs.Verdicts.{in_book, holds, due, ruled_out}
 use Rattle.models.specs.Stability.{ReadingsOf, Closed, Stable}
 use Rattle.models.specs.Moves.{Move, start, after, after_all, may_all, reached, sweeps, feeds, closes, fed_by, closed_by, Outcome, decided, NothingDue, model_of}
 use Rattle.models.specs.Sets.{State}
-use Rattle.models.proofs.TrueTests.{and_in, and_right, or_left, or_right, or_out, false_in, false_out, stands, or_assoc, never}
+use Rattle.std.proofs.Math.Bool.{or_assoc}
+use Rattle.std.proofs.lemmas.Bool.{false_from_ne_true, true_from_ne_false}
+use Rattle.models.proofs.TrueTests.{and_in, and_right, or_left, or_right, or_out, false_out, never}
 use Rattle.models.proofs.ListMembers.{every_within, none_of, some_within}
 use Rattle.models.proofs.BookOrder.{reading_in_book, derived_in_book}
 use Rattle.models.proofs.ClosedByRules.{closed_in, closed_out}
@@ -33,10 +35,10 @@ module _ {S : Type 0} {tests : Tests S} (laws : IsLawful tests) {m : Meaning S} 
 
   -- with nothing due, what is held is closed under what it leaves of the rules
   held_closed : (s : State) (fed : Set) → Founded tests m s fed → NothingDue m s → Closed m s.held s.held
-  held_closed s fed f idle = closed_in m s.held s.held (λ k r e ps ns. stands (s.held r.head) (λ unheld.
+  held_closed s fed f idle = closed_in m s.held s.held (λ k r e ps ns. true_from_ne_false (s.held r.head) (λ unheld.
       false_out (due m s r.head) (idle r.head)
       (due_in m s r.head
-      (λ h. unheld (holds_held m s r.head h))
+      (λ h. false_out (s.held r.head) unheld (holds_held m s r.head h))
       (record {
         number = k;
         rule = r;
@@ -153,7 +155,7 @@ module _ {S : Type 0} {tests : Tests S} (laws : IsLawful tests) {m : Meaning S} 
     pub out_of_model : (a : ℕ) → IsTrue (ruled_out tests m now a) → M a ≡ false
     out_of_model a out =
         is_played a ∙
-        false_in ((played now R).held a)
+        false_from_ne_true ((played now R).held a)
         (out_unheld (played now R) R (founded_played now R decided_now) a
         (lasts_all laws sound (decided R now) (sweeps (length m.atoms)) sweeping a
         (lasts laws sound now (decided R now) (grows_decided tests m now R) a out)))

@@ -34,10 +34,6 @@ pub not_out : (x : Bool) → IsTrue (not x) → IsTrue x → ⊥
 not_out true p q = false≢true p
 not_out false p q = false≢true q
 
-pub false_in : (x : Bool) → (IsTrue x → ⊥) → x ≡ false
-false_in true f = absurd (f refl)
-false_in false f = refl
-
 pub false_out : (x : Bool) → x ≡ false → IsTrue x → ⊥
 false_out x e p = false≢true (grind arith)
 
@@ -45,16 +41,8 @@ pub either : (x : Bool) → IsTrue x ⊎ (IsTrue x → ⊥)
 either true = inl refl
 either false = inr false≢true
 
--- a test whose failing is impossible passes
-pub stands : (x : Bool) → ((IsTrue x → ⊥) → ⊥) → IsTrue x
-stands true f = refl
-stands false f = absurd (f false≢true)
-
 pub same : (x y : Bool) → (IsTrue x → IsTrue y) → (IsTrue y → IsTrue x) → x ≡ y
 same true true f g = refl
 same true false f g = absurd (false≢true (f refl))
 same false true f g = absurd (false≢true (g refl))
 same false false f g = refl
-
-pub or_assoc : (x y z : Bool) → ((x || y) || z) ≡ (x || (y || z))
-or_assoc x y z = grind arith

@@ -4,13 +4,12 @@ use Rattle.books.specs.Meaning.{Rule, Meaning}
 use Rattle.books.specs.Judged.{relates}
 use Rattle.models.specs.Sets.{State, Within}
 use Rattle.models.specs.Verdicts.{in_book, is_derived, holds, ready, due, pending, blocks, blocked, safe, awaited, ruled_out}
-use Rattle.models.proofs.TrueTests.{or_out, false_in}
+use Rattle.models.proofs.TrueTests.{or_out}
 use Rattle.models.proofs.ListMembers.{some_out, below_in, below_out}
 use Rattle.models.proofs.BookOrder.{Headed, place, related_in_book, headed_in, headed_out}
 use Rattle.std.specs.Bool.{IsTrue}
 use Rattle.std.proofs.Common.{arith}
-use Rattle.std.proofs.lemmas.Bool.{false≢true}
-use Rattle.models.proofs.TrueTests.{false_in}
+use Rattle.std.proofs.lemmas.Bool.{false≢true, false_from_ne_true}
 use Rattle.stamps.specs.Orders.{Tests}
 use Rattle.std.specs.List.{list_all, list_any}
 
@@ -38,7 +37,7 @@ module _ {S : Type 0} (m : Meaning S) where
 
   pub ready_in : (s : State) (r : Rule) → Ready m s r → IsTrue (ready m s r)
   unfolding ready
-  ready_in s r h = let none = false_in _ h.negatives in grind (arith, h.derived, h.positives)
+  ready_in s r h = let none = false_from_ne_true _ h.negatives in grind (arith, h.derived, h.positives)
 
   pub due_unheld : (s : State) (a : ℕ) → IsTrue (due m s a) → IsTrue (holds m s a) → ⊥
   unfolding due
@@ -50,7 +49,7 @@ module _ {S : Type 0} (m : Meaning S) where
 
   pub due_in : (s : State) (a : ℕ) → (IsTrue (holds m s a) → ⊥) → Headed m a (λ r. IsTrue (ready m s r)) → IsTrue (due m s a)
   unfolding due
-  due_in s a f h = let unheld = false_in (holds m s a) f in let heads = headed_in m (ready m s) a h in grind arith
+  due_in s a f h = let unheld = false_from_ne_true (holds m s a) f in let heads = headed_in m (ready m s) a h in grind arith
 
   module _ (s : State) where
     pub pending_due : (a : ℕ) → IsTrue (due m s a) → IsTrue (pending m s a)
@@ -99,13 +98,13 @@ module _ {S : Type 0} (m : Meaning S) where
       unblocked_free r t b = false≢true (grind arith)
 
       pub unblocked_in : (r : Rule) → IsTrue (ready m s r) → (IsTrue (blocked tests m s r) → ⊥) → IsTrue (unblocked r)
-      unblocked_in r t f = let free = false_in (blocked tests m s r) f in grind arith
+      unblocked_in r t f = let free = false_from_ne_true (blocked tests m s r) f in grind arith
 
       pub ruled_in : (a : ℕ) → (IsTrue (holds m s a) → ⊥) → ((b : ℕ) → IsTrue (pending m s b) → IsTrue (relates tests.not_after m b a) → ⊥) → IsTrue (ruled_out tests m s a)
       unfolding ruled_out awaited
       ruled_in a f g =
-          let unheld = false_in (holds m s a) f in
-          let alone = false_in (awaited tests m s a) (λ t.
+          let unheld = false_from_ne_true (holds m s a) f in
+          let alone = false_from_ne_true (awaited tests m s a) (λ t.
           let w = below_out (length m.atoms) (λ b. pending m s b && relates tests.not_after m b a) t in let b = w.2 in
           g w.0 (grind arith) (grind arith)) in
           grind arith

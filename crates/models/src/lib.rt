@@ -15,6 +15,7 @@ pub fn each_has_one_model<O: Order>()
 {}
 
 // An atom once ruled out stays ruled out, whatever moves follow.
+#[tactic(auto, using(crate::proofs::Theorems::ruled_out_lasts_lem))]
 pub fn ruled_out_lasts<O: Order>()
     ensures { RuledOutLasts O.Order.tests }
 {}
@@ -27,26 +28,31 @@ pub fn nothing_is_taken_back<O: Order>()
 {}
 
 // With nothing open, something due gives something safe.
+#[tactic(auto, using(crate::proofs::Theorems::due_gives_safe_lem))]
 pub fn due_gives_safe<O: Order>()
     ensures { DueGivesSafe O.Order.tests }
 {}
 
 // With nothing open, as many sweeps as there are atoms leave nothing due.
+#[tactic(auto, using(crate::proofs::Theorems::sweeping_ends_lem))]
 pub fn sweeping_ends<O: Order>()
     ensures { SweepingEnds O.Order.tests }
 {}
 
 // With nothing due and nothing open the held set is the stable model of the fed readings, in whatever order the moves came.
+#[tactic(auto, using(crate::proofs::Theorems::end_is_model))]
 pub fn end_is_the_model<O: Order>()
     ensures { EndIsModel O.Order.tests }
 {}
 
 // Looking for blockers only strictly before the negative is wrong, and so is comparing them with the head.
+#[tactic(auto, using(crate::proofs::ExamplesComputed::shortcuts_are_wrong_lem))]
 pub fn shortcuts_are_wrong()
     ensures { ShortcutsAreWrong }
 {}
 
 // What the definitions say of three small books.
+#[tactic(auto, using(crate::proofs::ExamplesComputed::examples_hold_lem))]
 pub fn examples_hold()
     ensures { ExamplesHold }
 {}

@@ -1,19 +1,12 @@
 -- The atoms of a list, one after another.
 use Rattle.std.proofs.Common.{◌≡◌, ℕ, ◌+◌, ◌≤◌, Bool, true, false, List, [], length, Ok, Err, Result, sym, refl, ◌∙◌, arith}
-use Rattle.std.proofs.lemmas.List.{length-take-le}
 use Rattle.books.specs.declared.fault.Fault.{Fault}
-use Rattle.makes.specs.Bodies.{body_items}
-use Rattle.makes.specs.declared.body.Body.{Body}
 use Rattle.text.specs.Bytes.{and_then}
 use Rattle.text.specs.Lists.{open_at}
 use Rattle.text.specs.Rules.{Listed, no_atom, one_literal, body_at}
 use Rattle.text.specs.Turns.{tries}
 use Rattle.text.specs.declared.site.Site.{Site}
 use Rattle.text.proofs.Turned.{turns_none, tries_more, tries_end, tries_refused}
-
--- a body has few items, as its type says
-pub few_items : (b : Body ℕ) → length (body_items b) ≤ 6
-few_items b = let few = b.few in let within = b.within in rw (length-take-le b.len b.items within) few
 
 -- in as many turns as there are atoms, this is read
 pub record Reads (text : List ℕ) (site : Site) (before : ℕ) (start : Bool × ℕ) (l : Listed) : Type 0 where

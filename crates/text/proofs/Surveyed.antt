@@ -1,5 +1,5 @@
 -- The two passes over a text agree.
-use Rattle.std.proofs.Common.{◌≡◌, ℕ, zero, suc, ◌+◌, ◌<◌, ◌≤◌, Bool, true, false, cond, List, length, Ok, Err, Result, sym, refl, ap, ◌∙◌, arith}
+use Rattle.std.proofs.Common.{◌≡◌, ℕ, zero, suc, ◌+◌, ◌<◌, ◌≤◌, Bool, true, false, cond, List, length, Ok, Err, Result, ◌⊎◌, inl, inr, sym, refl, ap, ◌∙◌, arith}
 use Rattle.books.specs.Meaning.{Meaning}
 use Rattle.books.specs.declared.fault.Fault.{Fault}
 use Rattle.text.specs.Bytes.{and_then, wrong_at}
@@ -86,18 +86,16 @@ module _ {S : Type 0} {stamp_at : List ℕ → ℕ → Result (S × ℕ) Fault} 
       ap ends (tries_refused step start_reader n (length text) r e h.reached refuses l)
 
   -- a finished text stays as it is
-  pub surveys_all : true ≡ finished text r → n ≤ length text → Surveys stamp_at spelling text room (length text) r
-  surveys_all done l =
+  all_turned : (length text ≤ n) ⊎ (true ≡ finished text r) → n ≤ length text → Ok r ≡ tries step start_reader (length text)
+  all_turned (inl past) l = let last : n ≡ length text = omega arith in h.reached ∙ ap (tries step start_reader) last
+  all_turned (inr done) l =
       let stays : step r ≡ Ok r = rw (← done) refl in
-      record { reached = tries_end step start_reader r n (length text) stays h.reached l }
-
-  pub surveys_last : length text ≤ n → n ≤ length text → Surveys stamp_at spelling text room (length text) r
-  surveys_last l m = let last : n ≡ length text = omega arith in record { reached = h.reached ∙ ap (tries step start_reader) last }
+      tries_end step start_reader r n (length text) stays h.reached l
 
   -- after all turns the stage decides
-  pub survey_ends : n ≡ length text → cond (is_end r.stage) (Ok r) (wrong_at (length text)) ≡ survey_at stamp_at spelling text room
+  pub survey_over : (length text ≤ n) ⊎ (true ≡ finished text r) → n ≤ length text → (b : Bool) → b ≡ is_end r.stage → cond b (Ok r) (wrong_at (length text)) ≡ survey_at stamp_at spelling text room
   unfolding survey_at
-  survey_ends e = ap ends (h.reached ∙ ap (tries step start_reader) e)
+  survey_over over l b e = ap (λ b. cond b (Ok r) (wrong_at (length text))) e ∙ ap ends (all_turned over l)
 
 module _ {S : Type 0} (n : ℕ) where
   ended : (s : Progress S) (b : Bool) (r : Reader) → Ok r ≡ cond b (Ok s.reader) (wrong_at n) → (r ≡ s.reader) × (b ≡ true)

@@ -1,7 +1,6 @@
-use Rattle.std.proofs.Common.{cond, length, Ok, refl, ap, ◌∙◌}
+use Rattle.std.proofs.Common.{true, false, inl, inr}
 use Rattle.std.proofs.lemmas.Result.{err_from_is_err_and}
-use Rattle.text.specs.Bytes.{wrong_at}
-use Rattle.text.proofs.Surveyed.{Surveys, surveys_none, surveys_more, surveys_all, surveys_last, survey_refused, survey_ends}
+use Rattle.text.proofs.Surveyed.{surveys_none, surveys_more, survey_refused, survey_over}
 use Rattle.text.proofs.read.survey.Goals as goal
 use Rattle.text.proofs.read.survey.Goals.{else-loop-turn-test, then-loop-turn-test+then-is_finished}
 
@@ -20,22 +19,12 @@ returns-in_err-step g c =
 
 pub returns-then-is_end : goal.returns-then-is_end
 returns-then-is_end g c =
-    let i = c.loop-turn.invariant in
-    let n = length c.args.text.now in
-    let all : Surveys g.S.Spelled.stamp_at g.S.Spelled.spelling c.args.text.now c.args.room n c.loop-turn.reader =
-    elim c.loop-turn-test.branch [
-      | else-loop-turn-test w ↦ surveys_last i w.loop-turn-test.false c.loop-turn.auto._turn-end
-      | then-loop-turn-test+then-is_finished w ↦ surveys_all i w.if-is_finished.ensures c.loop-turn.auto._turn-end
-    ] in
-    ap (λ b. cond b (Ok c.loop-turn.reader) (wrong_at n)) c.if-is_end.ensures ∙ survey_ends all refl
+    survey_over c.loop-turn.invariant
+    (elim c.loop-turn-test.branch [ | else-loop-turn-test w ↦ inl w.loop-turn-test.false | then-loop-turn-test+then-is_finished w ↦ inr w.if-is_finished.ensures ])
+    c.loop-turn.auto._turn-end true c.if-is_end.ensures
 
 pub returns-else-is_end : goal.returns-else-is_end
 returns-else-is_end g c =
-    let i = c.loop-turn.invariant in
-    let n = length c.args.text.now in
-    let all : Surveys g.S.Spelled.stamp_at g.S.Spelled.spelling c.args.text.now c.args.room n c.loop-turn.reader =
-    elim c.loop-turn-test.branch [
-      | else-loop-turn-test w ↦ surveys_last i w.loop-turn-test.false c.loop-turn.auto._turn-end
-      | then-loop-turn-test+then-is_finished w ↦ surveys_all i w.if-is_finished.ensures c.loop-turn.auto._turn-end
-    ] in
-    ap (λ b. cond b (Ok c.loop-turn.reader) (wrong_at n)) c.if-is_end.ensures ∙ survey_ends all refl
+    survey_over c.loop-turn.invariant
+    (elim c.loop-turn-test.branch [ | else-loop-turn-test w ↦ inl w.loop-turn-test.false | then-loop-turn-test+then-is_finished w ↦ inr w.if-is_finished.ensures ])
+    c.loop-turn.auto._turn-end false c.if-is_end.ensures

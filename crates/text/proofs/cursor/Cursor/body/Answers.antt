@@ -1,6 +1,7 @@
 use Rattle.std.proofs.Common.{◌∙◌}
 use Rattle.std.proofs.lemmas.Result.{err_from_is_err_and}
-use Rattle.text.proofs.Bodied.{few_items, reads_none, reads_more, body_refused, body_read}
+use Rattle.makes.proofs.Bodies.{few_items}
+use Rattle.text.proofs.Bodied.{reads_none, reads_more, body_refused, body_read}
 use Rattle.text.proofs.cursor.Cursor.body.Goals as goal
 
 pub loop-more-init : goal.loop-more-init
