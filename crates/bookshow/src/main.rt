@@ -122,11 +122,7 @@ fn patterns() -> Result<[Pattern; 5], TooLong> {
 }
 
 // Makes the book over 2 ticks, strikes a rule of it, and shows both.
-fn repeating<'a>(
-    rt: &HostRuntime,
-    slots: &'a [Slot],
-    patterns: &'a [Pattern],
-) -> anyhow::Result<()> {
+fn repeating(rt: &HostRuntime, slots: &[Slot], patterns: &[Pattern]) -> anyhow::Result<()> {
     let book = match Repeating::make(slots, 2, patterns) {
         Ok(book) => book,
         Err(fault) => {

@@ -5,6 +5,7 @@ use makes::rows::AtomRow;
 use stamps::route::Route;
 use stamps::tick::Tick;
 use std::test::Fail;
+use text::counts::Counts;
 use text::read::read;
 use writing::write::write;
 
@@ -19,7 +20,7 @@ fn an_accepted_text(rt: HostRuntime) -> Result<(), Fail> {
     let text =
         b"(order tick)\n(atom 0 in 0000000001)\n(atom 1 out 4294967295)\n(rule 0000000000 1 (0) (0 0))\n(void 1)\n(end)\n";
     let counts = read::<Tick>(text, &mut atoms, &mut rules)?;
-    assert!(rt; counts.atoms == 2 && counts.rules == 2);
+    assert_eq!(rt; counts, Counts { atoms: 2, rules: 2 });
     let [first, second, third, fourth] = atoms;
     assert!(rt; first.reading && first.stamp.0 == 1);
     assert!(rt; !second.reading && second.stamp.0 == 4294967295);
@@ -39,7 +40,7 @@ fn an_accepted_route(rt: HostRuntime) -> Result<(), Fail> {
     let mut rules = [None; 1];
     let text = b"(order route)\n(atom 0 in ())\n(atom 1 out (0 2 063))\n(end)\n";
     let counts = read::<Route>(text, &mut atoms, &mut rules)?;
-    assert!(rt; counts.atoms == 2 && counts.rules == 0);
+    assert_eq!(rt; counts, Counts { atoms: 2, rules: 0 });
     assert!(rt; atoms[0].reading && atoms[0].stamp.aisles == 0);
     assert!(rt; atoms[1].stamp.aisles == 9223372036854775813);
     Ok(())
@@ -51,7 +52,7 @@ fn takes_no_more(text: &[u8], atoms: usize, rules: usize, form: &[u8]) -> Result
     let mut rows = [mark_row::<Tick>(); 1100];
     let mut numbers = [mark_rule(); 1100];
     let counts = read::<Tick>(text, &mut rows, &mut numbers)?;
-    if counts.atoms != atoms || counts.rules != rules {
+    if counts != (Counts { atoms, rules }) {
         return Err(Fail::new("the counts are not those of the text"));
     }
     if text.len() < 6 {

@@ -1,6 +1,6 @@
 // Books of other makes written out and read in again.
 use crate::begins_with;
-use books::fault::Values;
+use books::fault::CheckFault;
 use makes::body::{Body, TooLong};
 use makes::flat::Flat;
 use makes::patterns::{Pattern, Slot, Step};
@@ -99,11 +99,11 @@ fn a_literal_that_is_not_there_is_not_written(rt: HostRuntime) -> Result<(), Fai
         rules: &rules,
     };
     let mut sheet = [b'#'; 200];
-    let Err(fault) = write(&book, &mut sheet) else {
-        return Err(Fail::new("a literal that is not there"));
+    let missing = CheckFault::LiteralMissing {
+        rule: 1,
+        literal: 3,
     };
-    let refusal = fault.refusal();
-    assert!(rt; refusal.number == 4 && refusal.values == Values::RuleLiteral(1, 3));
+    assert_eq!(rt; write(&book, &mut sheet).err(), Some(missing.into()));
     assert!(rt; begins_with(&sheet, b"", 0));
     Ok(())
 }

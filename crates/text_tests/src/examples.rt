@@ -6,6 +6,7 @@ use stamps::route::Route;
 use stamps::then::Then;
 use stamps::tick::Tick;
 use std::test::Fail;
+use text::counts::Counts;
 use text::read::read;
 use text::stamp::Spelled;
 use writing::canonical::canonical;
@@ -276,7 +277,7 @@ fn comes_back<S: Spelled>(
     let counts = read::<S>(text, table, &mut rows)?;
     let mut sheet = [b'#'; 4400];
     let length = canonical::<S>(text, table, &mut rows, &mut sheet)?;
-    Ok(counts.atoms == atoms && counts.rules == rules && begins_with(&sheet, text, length))
+    Ok(counts == Counts { atoms, rules } && begins_with(&sheet, text, length))
 }
 
 #[test]

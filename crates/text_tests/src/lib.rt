@@ -161,12 +161,9 @@ fn begins_with(sheet: &[u8], expected: &[u8], length: usize) -> bool {
 }
 
 // Lays two runs of bytes on a sheet, one after the other, and answers their length. What falls beyond the end is lost.
-// The bytes go by number, since the number is what is answered.
 fn laid(sheet: &mut [u8], first: &[u8], second: &[u8]) -> usize {
-    let mut length = 0;
-    for (i, byte) in first.iter().chain(second).enumerate().take(sheet.len()) {
-        sheet[i] = *byte;
-        length = i + 1;
+    for (place, byte) in sheet.iter_mut().zip(first.iter().chain(second)) {
+        *place = *byte;
     }
-    length
+    first.len().saturating_add(second.len()).min(sheet.len())
 }

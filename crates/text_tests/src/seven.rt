@@ -21,15 +21,15 @@ impl Book for Seven {
     }
 
     fn stamp(&self, atom: usize) -> Option<Tick> {
-        if atom == 0 { Some(Tick(1)) } else { None }
+        (atom == 0).then_some(Tick(1))
     }
 
     fn reading(&self, atom: usize) -> Option<bool> {
-        if atom == 0 { Some(false) } else { None }
+        (atom == 0).then_some(false)
     }
 
     fn head(&self, rule: usize) -> Option<usize> {
-        if rule == 0 { Some(0) } else { None }
+        (rule == 0).then_some(0)
     }
 
     fn body_count(&self, rule: usize, sign: Sign) -> Option<usize> {
@@ -37,14 +37,10 @@ impl Book for Seven {
             Sign::Positive => 7,
             Sign::Negative => 0,
         };
-        if rule == 0 { Some(count) } else { None }
+        (rule == 0).then_some(count)
     }
 
     fn body_atom(&self, rule: usize, sign: Sign, i: usize) -> Option<usize> {
-        if rule == 0 && sign == Sign::Positive && i < 7 {
-            Some(0)
-        } else {
-            None
-        }
+        (rule == 0 && sign == Sign::Positive && i < 7).then_some(0)
     }
 }

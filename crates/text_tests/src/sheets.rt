@@ -1,7 +1,7 @@
 // Sheets that are too short, and books that are not written.
 use crate::seven::Seven;
 use crate::{begins_with, mark_row, mark_rule};
-use books::fault::Values;
+use books::fault::{CheckFault, Fault, MakeFault, ReadFault};
 use makes::flat::Flat;
 use makes::rows::{AtomRow, RuleRow};
 use stamps::tick::Tick;
@@ -21,11 +21,10 @@ fn a_sheet_one_byte_too_short(rt: HostRuntime) -> Result<(), Fail> {
     };
     let text = b"(order tick)\n(atom 0 in 10)\n(end)\n";
     let mut sheet = [b'#'; 33];
-    let Err(fault) = write(&book, &mut sheet) else {
-        return Err(Fail::new("the sheet is too short"));
-    };
-    let refusal = fault.refusal();
-    assert!(rt; refusal.number == 17 && refusal.values == Values::One(34));
+    let fault = write(&book, &mut sheet).err();
+    assert_eq!(rt; fault, Some(MakeFault::SheetTooShort { needed: 34 }.into()));
+    // No other test compares this number with the table of refusals.
+    assert!(rt; fault.is_some_and(|fault| fault.refusal().number == 17));
     assert!(rt; begins_with(&sheet, b"", 0));
     let mut exact = [b'#'; 34];
     let length = write(&book, &mut exact)?;
@@ -37,19 +36,17 @@ fn a_sheet_one_byte_too_short(rt: HostRuntime) -> Result<(), Fail> {
 }
 
 #[test]
-fn a_list_of_seven_is_not_written(rt: HostRuntime) -> Result<(), Fail> {
+fn a_list_of_seven_is_not_written(rt: HostRuntime) {
     let mut sheet = [b'#'; 200];
-    let Err(fault) = write(&Seven, &mut sheet) else {
-        return Err(Fail::new("seven atoms in a list"));
-    };
-    let refusal = fault.refusal();
-    assert!(rt; refusal.number == 3 && refusal.values == Values::RuleLiteral(0, 0));
+    assert_eq!(rt;
+        write(&Seven, &mut sheet).err(),
+        Some(CheckFault::BodyTooLong { rule: 0 }.into())
+    );
     assert!(rt; begins_with(&sheet, b"", 0));
-    Ok(())
 }
 
 #[test]
-fn a_head_that_is_not_there_is_not_written(rt: HostRuntime) -> Result<(), Fail> {
+fn a_head_that_is_not_there_is_not_written(rt: HostRuntime) {
     let rows = [mark_row::<Tick>()];
     let rules = [mark_rule()];
     let book = Flat {
@@ -57,26 +54,18 @@ fn a_head_that_is_not_there_is_not_written(rt: HostRuntime) -> Result<(), Fail> 
         rules: &rules,
     };
     let mut sheet = [b'#'; 200];
-    let Err(fault) = write(&book, &mut sheet) else {
-        return Err(Fail::new("a head that is not there"));
-    };
-    let refusal = fault.refusal();
-    assert!(rt; refusal.number == 4 && refusal.values == Values::RuleLiteral(0, 0));
+    assert_eq!(rt;
+        write(&book, &mut sheet).err(),
+        Some(CheckFault::HeadMissing { rule: 0 }.into())
+    );
     assert!(rt; begins_with(&sheet, b"", 0));
-    Ok(())
 }
 
-// The book is refused with 3, 0 and 0, and the sheet stays.
-fn is_too_large<'a>(atoms: &'a [AtomRow<Tick>], rules: &'a [Option<RuleRow>]) -> bool {
+// The book is refused as too large, and the sheet stays.
+fn is_too_large(atoms: &[AtomRow<Tick>], rules: &[Option<RuleRow>]) -> bool {
     let book = Flat { atoms, rules };
     let mut sheet = [b'#'; 64];
-    let Err(fault) = write(&book, &mut sheet) else {
-        return false;
-    };
-    let refusal = fault.refusal();
-    refusal.number == 3
-        && refusal.values == Values::RuleLiteral(0, 0)
-        && begins_with(&sheet, b"", 0)
+    write(&book, &mut sheet) == Err(CheckFault::TooLarge.into()) && begins_with(&sheet, b"", 0)
 }
 
 #[test]
@@ -85,21 +74,28 @@ fn a_book_over_the_limits_is_not_written(rt: HostRuntime) {
     assert!(rt; is_too_large(&[], &[None; 1025]));
 }
 
-// The text is refused with this number of the table of refusals, and the sheet stays.
-fn leaves_the_sheet(text: &[u8], number: u8) -> bool {
+// The text is refused with this fault, and the sheet stays.
+fn leaves_the_sheet(text: &[u8], fault: Fault) -> bool {
     let mut sheet = [b'#'; 24];
     let mut atoms = [mark_row::<Tick>(); 4];
     let mut rules = [mark_rule(); 4];
-    let refused = canonical(text, &mut atoms, &mut rules, &mut sheet).is_err_and(|fault| fault
-        .refusal()
-        .number
-        == number);
-    refused && begins_with(&sheet, b"", 0)
+    let answer = canonical(text, &mut atoms, &mut rules, &mut sheet);
+    answer == Err(fault) && begins_with(&sheet, b"", 0)
 }
 
 #[test]
 fn a_refused_text_leaves_the_sheet(rt: HostRuntime) {
-    assert!(rt; leaves_the_sheet(b"(order tick)\n", 1));
-    assert!(rt; leaves_the_sheet(b"(order tick)\n(atom 0 in 1)\n(rule 0 0 () ())\n(end)\n", 5));
-    assert!(rt; leaves_the_sheet(b"(order tick)\n(atom 0 in 1)\n(end)\n", 17));
+    assert!(rt; leaves_the_sheet(b"(order tick)\n", ReadFault::Byte { place: 13 }.into()));
+    assert!(rt;
+        leaves_the_sheet(
+            b"(order tick)\n(atom 0 in 1)\n(rule 0 0 () ())\n(end)\n",
+            CheckFault::HeadIsReading { rule: 0 }.into()
+        )
+    );
+    assert!(rt;
+        leaves_the_sheet(
+            b"(order tick)\n(atom 0 in 1)\n(end)\n",
+            MakeFault::SheetTooShort { needed: 33 }.into()
+        )
+    );
 }
