@@ -7,7 +7,7 @@ use anyhow::anyhow;
 use books::book::Book;
 use books::check::{check, check_rule};
 use lines::RuleLine;
-use makes::body::{Body, TooLong};
+use makes::body::TooLong;
 use makes::flat::Flat;
 use makes::patterns::{Pattern, Slot, Step};
 use makes::repeating::Repeating;

@@ -2,7 +2,7 @@
 use crate::checks::{refused, told};
 use books::book::{Book, Sign};
 use books::fault::Refusal;
-use makes::body::{Body, TooLong};
+use makes::body::TooLong;
 use makes::patterns::{Pattern, Slot, Step};
 use makes::repeating::Repeating;
 use makes::struck::Struck;

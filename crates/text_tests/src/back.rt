@@ -1,7 +1,7 @@
 // Books of other makes written out and read in again.
 use crate::begins_with;
 use books::fault::CheckFault;
-use makes::body::{Body, TooLong};
+use makes::body::TooLong;
 use makes::flat::Flat;
 use makes::patterns::{Pattern, Slot, Step};
 use makes::repeating::Repeating;
@@ -15,11 +15,11 @@ use writing::write::write;
 
 // Slot 1 of stage 1 from slot 0, and from not itself one tick back.
 fn pattern() -> Result<Pattern, TooLong> {
-    Ok(Pattern {
-        head: 1,
-        positives: Body::of(&[Step { slot: 0, back: 0 }])?,
-        negatives: Body::of(&[Step { slot: 1, back: 1 }])?,
-    })
+    Pattern::of(
+        1,
+        &[Step { slot: 0, back: 0 }],
+        &[Step { slot: 1, back: 1 }],
+    )
 }
 
 const SLOTS: [Slot; 2] = [
