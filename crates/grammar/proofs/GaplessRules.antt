@@ -31,7 +31,7 @@ abbrev pub GaplessRow : ℕ → Option Rule → Type 0
 GaplessRow atoms None = Unit {0}
 GaplessRow atoms (Some r) = GaplessRule atoms r
 
--- no fault comes of a choice only where the choice is the one without it
+-- no fault comes of a choice only where the choice is the one without it; in writing's lemma of this name the fault comes first
 passes : {X : Type 0} (b : Bool) (x : X) (o : Option X) → cond b o (Some x) ≡ None → (b ≡ true) × (o ≡ None)
 passes true x o e = (refl, e)
 passes false x o e = absurd (grind arith)

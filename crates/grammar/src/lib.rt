@@ -15,6 +15,7 @@ pub fn examples_hold()
 
 // Where the program refuses a byte, what stands before it begins a text of the grammar's shape of one of the three kinds,
 // and with it begins none.
+// Its lemma, named with `using`, does not close it: its answer cites the lemma.
 pub fn program_refuses_there()
     ensures { ProgramRefusesThere }
 {}

@@ -10,6 +10,7 @@ ghost use Rattle.models.specs.Theorems.{EachHasOneModel, RuledOutLasts, OpenMayC
 use stamps::order::Order;
 
 // Every set of readings of a checked book has exactly one stable model, and sweeping computes it.
+// Its lemma, named with `using`, does not close it: its answer cites the lemma.
 pub fn each_has_one_model<O: Order>()
     ensures { EachHasOneModel O.Order.tests }
 {}
@@ -22,6 +23,7 @@ pub fn ruled_out_lasts<O: Order>()
 
 // Each held atom is in the stable model of every possible outcome, and each ruled out atom is in none;
 // and whichever of the open readings come, they and the fed ones are such an outcome.
+// Its lemmas, named with `using`, do not close it: its answer cites them.
 pub fn nothing_is_taken_back<O: Order>()
     ensures possible { OpenMayCome O.Order.tests }
     ensures told { NothingTakenBack O.Order.tests }
