@@ -1,7 +1,6 @@
 // The laws that tie reading and writing to the grammar of the text, at every kind of stamp that the grammar has.
 // Each function below computes nothing: its contract is a theorem about the definitions of `grammar`'s specs/.
-// The lemmas of `grammar`, named with `using`, do not close the contracts of written_is_read_back, accepted_comes_back
-// and refused_at_the_first_byte: their answers cite them.
+// The lemmas of `grammar`, named with `using`, do not close the first five contracts: their answers cite them.
 #![tactic(auto)]
 
 pub mod notated;
