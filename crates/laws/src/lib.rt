@@ -1,8 +1,7 @@
 // The laws that tie reading and writing to the grammar of the text, at every kind of stamp that the grammar has.
 // Each function below computes nothing: its contract is a theorem about the definitions of `grammar`'s specs/.
 // The notation is written out in each: a ghost member that holds it might differ from the members of `Spelled`.
-// The lemmas of `grammar`, named with `using`, do not close the contracts of written_is_read_back, accepted_comes_back
-// and refused_at_the_first_byte: their answers cite them.
+// The lemmas of `grammar`, named with `using`, do not close the first five contracts: their answers cite them.
 #![tactic(auto)]
 
 pub mod notated;
