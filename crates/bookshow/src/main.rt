@@ -25,6 +25,7 @@ const NAMES: [&str; 6] = [
     "shuttle 3 may go round by aisle 9",
 ];
 
+// The same maker stands in `samples`: neither crate stands on the other.
 fn atom(tick: u32, reading: bool) -> AtomRow<Tick> {
     AtomRow {
         stamp: Tick(tick),

@@ -15,6 +15,7 @@ use words::numbers::{add, has};
 pub const MAX_STRUCK: usize = 1024;
 
 // A book and the set of its struck rule numbers. The set has room for each number of a book, so its size is no parameter.
+// It is an array, since a set that grows would allocate.
 #[derive(Clone, Copy)]
 pub struct Struck<B> {
     below: B,

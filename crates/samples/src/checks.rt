@@ -22,6 +22,7 @@ pub(crate) fn told<B: Book>(book: &B) -> Option<Refusal> {
     check(book).err().map(|fault| fault.refusal())
 }
 
+// The same maker stands in `bookshow`: neither crate stands on the other.
 fn atom(tick: u32, reading: bool) -> AtomRow<Tick> {
     AtomRow {
         stamp: Tick(tick),

@@ -147,7 +147,7 @@ impl Reader {
         ensures roomy { IfOk result (λ f. Roomy room self.now f) }
         ensures value { TookAs line_of result cursor.old cursor.new (form_at S.Spelled.stamp_at S.Spelled.spelling cursor.old.text.now room self.now) }
     {
-        // Stage and kind together: a form is read where both allow it.
+        // Stage and kind together, as the rules of the text have them: a form is read where both allow it, and no table of calls is plainer.
         match (self.stage, cursor.opening()) {
             (Stage::Start, Some(Kind::Order)) => {
                 cursor.word(S::word())?;

@@ -20,6 +20,7 @@ const START: Reader = Reader {
 
 // Goes over the whole text and says where its reader ends, which is past the end form.
 // It writes nothing, since a refused text leaves the tables as they were.
+// Text and room are two parameters, here, in `fill` and in `step`: the room is of the tables and not of the text.
 fn survey<S: Spelled>(text: &[u8], room: Counts) -> Result<Reader, ReadFault>
     ensures { as_fault result ≡ survey_at S.Spelled.stamp_at S.Spelled.spelling text.now room }
 {
@@ -58,7 +59,7 @@ fn put<S: Spelled>(
 }
 
 // Goes over the text once more and writes its atoms and rules into the tables.
-// The tables are two parameters: with both in a struct, each clause and loop would have to keep besides that it lends the same places and lengths.
+// The tables are two parameters: with both in a struct (tried), each clause and loop would have to keep besides that it lends the same places and lengths.
 fn fill<S: Spelled>(
     text: &[u8],
     room: Counts,

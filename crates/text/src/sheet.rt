@@ -20,7 +20,7 @@ impl Sheet<'_> {
         ensures { Writes self.old bytes.now self.new }
     {
         for byte in bytes {
-            // Not `get_mut`: a proof has no lasting name for what the lent byte holds in the end.
+            // Not `get_mut` (tried): a proof has no lasting name for what the lent byte holds in the end.
             // Not `copy_from_slice` of what fits: the place counts on beyond the end, so two cases would be told apart.
             if self.at < self.bytes.len() {
                 self.bytes[self.at] = *byte;

@@ -87,7 +87,7 @@ fn mark_rule() -> Option<RuleRow> {
     })
 }
 
-// A function for each kind: an array whose rows have a type parameter is not proved.
+// A function for each kind: an array whose rows have a type parameter is not proved (tried).
 fn tick_refusal(text: &[u8]) -> Option<Refusal> {
     refusal(text, &mut [mark_row::<Tick>(); 4], &mut [mark_rule(); 3])
 }
@@ -118,7 +118,8 @@ fn is_rule(row: &Option<RuleRow>, head: usize, positives: &[usize], negatives: &
     })
 }
 
-// A refusal of the reader, with the place of the fault; by its number, as the table of refusals has it.
+// A refusal of the reader, with the place of the fault.
+// By its number, as the table of refusals has it: with the fault spelt out most cases would not fit a line.
 fn refused_at(number: u8, place: usize) -> Option<Refusal> {
     Some(Refusal {
         layer: Layer::Reading,

@@ -189,7 +189,7 @@ fn after_an_atom(form: &[u8]) -> Option<Refusal> {
     tick_refusal(text.get(..length)?)
 }
 
-// A refusal by its number, so many bytes from the bracket of the form after the atom.
+// A refusal by its number, as in `refused_at`, so many bytes from the bracket of the form after the atom.
 fn refused_there(number: u8, from_bracket: u8) -> Option<Refusal> {
     refused_at(number, ATOM.len() + usize::from(from_bracket))
 }
