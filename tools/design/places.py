@@ -2,7 +2,7 @@
 """places.py [POINT]   the places of docs/DESIGN-PASS.md, by point, in the src/ of every crate of this checkout.
 
 1  results of the shape of Option and Result, flags beside values, numbers for refusals
-2  functions that are the same text but for names and constants (of four tokens' worth of body or more)
+2  functions that are the same text but for names and constants (with bodies of twelve tokens or more)
 3  loops
 4  conversions, equality and printing written by hand, and faults wrapped by hand
 5  parameters that stand together in three functions or more, facts in the clauses of three or more, joined `requires`
