@@ -11,21 +11,20 @@ pub struct RuleLine<'a, B> {
     pub names: &'a [&'a str],
 }
 
-fn write_atom<B: Book, W: fmt::Write>(
-    line: &RuleLine<'_, B>,
-    atom: usize,
-    f: &mut fmt::Formatter<W>,
-) -> fmt::Result
+impl<B: Book> RuleLine<'_, B>
 where
     B::Stamp: Display,
 {
-    if !line.names.is_empty() {
-        let name = line.names[atom % line.names.len()];
-        write!(f, "{name}")?;
-    }
-    match line.book.stamp(atom) {
-        Some(stamp) => write!(f, " ({stamp})"),
-        None => write!(f, " (not in the book)"),
+    // An atom's name and stamp.
+    fn write_atom<W: fmt::Write>(&self, atom: usize, f: &mut fmt::Formatter<W>) -> fmt::Result {
+        if !self.names.is_empty() {
+            let name = self.names[atom % self.names.len()];
+            write!(f, "{name}")?;
+        }
+        match self.book.stamp(atom) {
+            Some(stamp) => write!(f, " ({stamp})"),
+            None => write!(f, " (not in the book)"),
+        }
     }
 }
 
@@ -39,14 +38,14 @@ where
             return write!(f, "rule {rule} is vacant");
         };
         write!(f, "rule {rule}: ")?;
-        write_atom(self, head, f)?;
+        self.write_atom(head, f)?;
         let mut first = true;
         for (sign, no) in [(Sign::Positive, ""), (Sign::Negative, "not ")] {
             let count = self.book.body_count(rule, sign).unwrap_or(0);
             for atom in (0..count).filter_map(|i| self.book.body_atom(rule, sign, i)) {
                 let joint = if first { "if" } else { "and" };
                 write!(f, " {joint} {no}")?;
-                write_atom(self, atom, f)?;
+                self.write_atom(atom, f)?;
                 first = false;
             }
         }
