@@ -1,6 +1,6 @@
 // The walk over a book's rules by number, up to the first fault.
 ghost use Rattle.std.specs.Prelude.{◌≡◌, ℕ, ◌<◌, Option, Some, if◌then◌else◌, nat_lt};
-ghost use Rattle.books.specs.Check.{Answers, first_below, refused_by, asked_tests, barred, literal_fault, rule_walk, book_walk};
+ghost use Rattle.books.specs.Check.{Answers, first_below, refused_by, asked_tests, literal_fault, rule_walk, book_walk};
 ghost use Rattle.books.specs.declared.book.Sign.TheVariants.{Positive, Negative};
 ghost use Rattle.books.specs.Meaning.{body_count_of, body_atom_of, literal_of};
 
@@ -16,18 +16,6 @@ pub enum Asked {
     Declared,
     // Besides, that the head is no reading, and that each literal's stamp fits the head's.
     Ordered,
-}
-
-impl Asked {
-    // Whether a head of such a kind is refused.
-    fn bars(self, reading: bool) -> bool
-        ensures { result ≡ barred self reading }
-    {
-        match self {
-            Asked::Declared => false,
-            Asked::Ordered => reading,
-        }
-    }
 }
 
 // The tests at the numbers below `count` in order, up to the first that refuses, with its error.
@@ -97,8 +85,10 @@ impl<'b, B: Book> Walked<'b, B> {
 pub(crate) fn walk_rule<B: Book>(book: &B, asked: Asked, rule: usize) -> Result<(), CheckFault>
     ensures { result ≡ refused_by (rule_walk asked B.Stamp.Order.tests (B.Book.meaning book.now) rule) }
 {
-    let (Some(head), Some(positives), Some(negatives)) = (
-        book.head(rule),
+    let Some(head) = book.head(rule) else {
+        return Ok(());
+    };
+    let (Some(positives), Some(negatives)) = (
         book.body_count(rule, Sign::Positive),
         book.body_count(rule, Sign::Negative),
     ) else {
@@ -107,10 +97,10 @@ pub(crate) fn walk_rule<B: Book>(book: &B, asked: Asked, rule: usize) -> Result<
     if positives > MAX_BODY || negatives > MAX_BODY {
         return Err(CheckFault::BodyTooLong { rule });
     }
-    let (Some(stamp), Some(reading)) = (book.stamp(head), book.reading(head)) else {
+    let Some(stamp) = book.stamp(head) else {
         return Err(CheckFault::HeadMissing { rule });
     };
-    if asked.bars(reading) {
+    if asked == Asked::Ordered && book.reading(head) == Some(true) {
         return Err(CheckFault::HeadIsReading { rule });
     }
     let walked = Walked {

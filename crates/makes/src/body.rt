@@ -20,7 +20,7 @@ pub struct Body<T = usize> {
     ghost within: { len ≤ length items },
 }
 
-// By hand: no derive makes a copy of a struct with a ghost field.
+// By hand: `Clone` is not derived for this struct, which has ghost fields (tried).
 impl<T: Copy> Clone for Body<T> {
     ghost is_clone = { λ x y. y ≡ x };
 

@@ -1,5 +1,5 @@
 // The struck book: any book, with some rule numbers made vacant.
-ghost use Rattle.std.specs.Prelude.{◌≡◌, true, replicate, Ok, nat_eq};
+ghost use Rattle.std.specs.Prelude.{◌≡◌, true, replicate, cond, Ok, Some, None, nat_eq};
 ghost use Rattle.std.specs.Option.{option_map};
 ghost use Rattle.books.specs.Check.{refused_by};
 ghost use Rattle.books.specs.declared.fault.Fault.TheVariants.{Making};
@@ -14,7 +14,7 @@ use words::numbers::{add, has};
 // The numbers that can be struck lie below this one.
 pub const MAX_STRUCK: usize = 1024;
 
-// A book and the set of its struck rule numbers. The set has room for each number of a book, so its size is no parameter.
+// A book and the set of its struck rule numbers. The set has room for each number that a book within the limits has, so its size is no parameter.
 // It is an array, since a set that grows would allocate.
 #[derive(Clone, Copy)]
 pub struct Struck<B> {
@@ -39,6 +39,13 @@ impl<B: Book> Struck<B> {
         ensures stands { StandsOver B.Stamp.Order.tests (has_number self.now.words) (B.Book.meaning self.now.below) (struck_meaning (has_number self.now.words) (B.Book.meaning self.now.below)) }
     {
         has(&self.words, rule)
+    }
+
+    // The number, unless it is struck. Asked before the book below, so that a struck number costs no question there.
+    fn standing(&self, rule: usize) -> Option<usize>
+        ensures { result ≡ cond (has_number self.now.words rule) None (Some rule) }
+    {
+        (!has(&self.words, rule)).then_some(rule)
     }
 
     // Makes a rule number vacant. Refused with `RuleMissing`, and the set stays as it was, where the book below lacks the number or it is above 1,023.
@@ -80,18 +87,14 @@ impl<B: Book> Book for Struck<B> {
     }
 
     fn head(&self, rule: usize) -> Option<usize> {
-        self.below.head(rule).filter(|_| !has(&self.words, rule))
+        self.below.head(self.standing(rule)?)
     }
 
     fn body_count(&self, rule: usize, sign: Sign) -> Option<usize> {
-        self.below
-            .body_count(rule, sign)
-            .filter(|_| !has(&self.words, rule))
+        self.below.body_count(self.standing(rule)?, sign)
     }
 
     fn body_atom(&self, rule: usize, sign: Sign, i: usize) -> Option<usize> {
-        self.below
-            .body_atom(rule, sign, i)
-            .filter(|_| !has(&self.words, rule))
+        self.below.body_atom(self.standing(rule)?, sign, i)
     }
 }
