@@ -11,12 +11,20 @@ use writing::reply::{MAX_INPUT, Tables, reply};
 
 const TABLE: usize = 1024;
 
-// Standard input, or as much of it as shows that it is too long. The limit is a constant, so its cast loses nothing.
+// All of standard input, or a little more than is ever read of it.
+// By parts: `take` and `read_to_end` ask for 512 bytes first, which cuts a longer packet of a pipe,
+// and stop at the limit, so that a read that fails past it is not told.
 fn input(rt: &HostRuntime) -> io::Result<Vec<u8>> {
     let mut text = Vec::new(rt.alloc());
-    rt.stdin()
-        .take(MAX_INPUT as u64 + 1)
-        .read_to_end(&mut text)?;
+    let mut stdin = rt.stdin();
+    let mut part = [0u8; 4096];
+    for _ in 0..MAX_INPUT + 1 {
+        let count = stdin.read(&mut part)?;
+        if count == 0 || text.len() > MAX_INPUT {
+            break;
+        }
+        text.extend_from_slice(&part[..count])?;
+    }
     Ok(text)
 }
 
