@@ -2,9 +2,7 @@
 use Rattle.std.specs.Prelude.{◌≡◌, ℕ, ◌+◌, ◌<◌, ◌≤◌, min, Bool, true, false, cond, ◌&&◌, List, [], ◌∷◌, ◌++◌, map, length, take, drop, Ok, Err, Option, Result, ◌==◌, slice_set}
 use Rattle.std.specs.Option.{option_map}
 use Rattle.books.specs.Meaning.{Rule, Atom, Meaning}
-use Rattle.books.specs.declared.fault.ReadFault.{ReadFault}
 use Rattle.books.specs.declared.fault.Fault.{Fault}
-use Rattle.books.specs.declared.fault.Fault.TheVariants.{Reading}
 use Rattle.makes.specs.Flats.{atom_of, rule_of}
 use Rattle.makes.specs.declared.rows.AtomRow.{AtomRow}
 use Rattle.makes.specs.declared.rows.RuleRow.{RuleRow}
@@ -97,14 +95,9 @@ Roomy room r (form.Rule row) = r.rules < room.rules
 Roomy room r form.End = Unit {0}
 
 -- the reader is past the form that is found, or it stands where it stood
-abbrev pub Stepped : {S : Type 0} → Result (Form S) ReadFault → Reader → Reader → Result (Line S × ℕ) Fault → Type 0
+abbrev pub Stepped : {S : Type 0} → Result (Form S) Fault → Reader → Reader → Result (Line S × ℕ) Fault → Type 0
 Stepped (Ok f) was is found = (Ok (line_of f, is.next) ≡ found) × (is ≡ moved_by was (line_of f) is.next)
-Stepped (Err e) was is found = (Err (Reading e) ≡ found) × (is ≡ was)
-
--- an answer of the reader among all faults
-abbrev pub as_fault : {X : Type 0} → Result X ReadFault → Result X Fault
-as_fault (Ok x) = Ok x
-as_fault (Err e) = Err (Reading e)
+Stepped (Err e) was is found = (Err e ≡ found) × (is ≡ was)
 
 -- the table of atoms with what a form says
 abbrev pub put_atom : {S : Type 0} → ℕ → List (AtomRow S) → Form S → List (AtomRow S)
@@ -132,9 +125,9 @@ pub record Held {S : Type 0} (s : Progress S) (old_atoms new_atoms : List (AtomR
   pub rules : Rows (option_map rule_of) s.reader.rules s.rules old_rules new_rules
 
 -- what a reader that fills the tables has found
-abbrev pub FilledBy : {S : Type 0} → Result (Progress S) Fault → Result (Unit {0}) ReadFault → List (AtomRow S) → List (AtomRow S) → List (Option RuleRow) → List (Option RuleRow) → Type 0
+abbrev pub FilledBy : {S : Type 0} → Result (Progress S) Fault → Result (Unit {0}) Fault → List (AtomRow S) → List (AtomRow S) → List (Option RuleRow) → List (Option RuleRow) → Type 0
 FilledBy {S} found (Ok u) old_atoms new_atoms old_rules new_rules = (s : Progress S) × (Ok s ≡ found) × Held s old_atoms new_atoms old_rules new_rules
-FilledBy {S} found (Err e) old_atoms new_atoms old_rules new_rules = Err (Reading e) ≡ found
+FilledBy {S} found (Err e) old_atoms new_atoms old_rules new_rules = Err e ≡ found
 
 -- the limits on the atoms and rules of a book, and the tables' own
 abbrev pub room_of : ℕ → ℕ → Counts

@@ -6,7 +6,7 @@ ghost use Rattle.text.specs.Words.{pass_word, agrees_to};
 
 use books::fault::ReadFault;
 
-// A place in a text, which what is read moves on. After a fault nothing is said of the place; the text is the same.
+// A place in a text, which what is read moves on. After a fault the methods here say nothing of the place; the text is the same.
 #[derive(Clone, Copy, Debug)]
 pub struct Cursor<'a> {
     pub text: &'a [u8],

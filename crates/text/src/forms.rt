@@ -1,6 +1,6 @@
 // Reading one form.
 ghost use Rattle.std.specs.Prelude.{◌≡◌, ◌<◌, Ok, IfOk, OnOk};
-ghost use Rattle.text.specs.Cursors.{Passed, Took, TookAs};
+ghost use Rattle.text.specs.Cursors.{Passed, Took, TookAny, TookAs};
 ghost use Rattle.text.specs.Forms.{line_of, if_room, next_number, reading_at, atom_at, rule_form_at, void_at, refused_at, form_at};
 ghost use Rattle.text.specs.Kinds.{atom_opening, rule_opening, void_opening};
 ghost use Rattle.text.specs.Words.{pass_word};
@@ -14,7 +14,7 @@ use crate::numbers::MAX_NUMBER;
 use crate::reader::{Reader, Stage};
 use crate::site::Site;
 use crate::stamp::Spelled;
-use books::fault::ReadFault;
+use books::fault::{Fault, ReadFault};
 use makes::rows::AtomRow;
 
 // How a form ends, and its line.
@@ -66,14 +66,10 @@ impl Reader {
     }
 
     #[tactic(auto, unfolding(crate::specs::Forms::atom_at))]
-    fn atom_form<S: Spelled>(
-        &self,
-        cursor: &mut Cursor<'_>,
-        room: Counts,
-    ) -> Result<Form<S>, ReadFault>
+    fn atom_form<S: Spelled>(&self, cursor: &mut Cursor<'_>, room: Counts) -> Result<Form<S>, Fault>
         requires { Ok cursor.old.at ≡ pass_word atom_opening cursor.old.text.now self.now.next }
         ensures roomy { IfOk result (λ f. Roomy room self.now f) }
-        ensures value { TookAs line_of result cursor.old cursor.new (atom_at S.Spelled.stamp_at cursor.old.text.now room self.now) }
+        ensures value { TookAny line_of result cursor.old cursor.new (atom_at S.Spelled.stamp_at cursor.old.text.now room self.now) }
     {
         self.numbered(cursor, self.atoms, room.atoms)?;
         cursor.pass(b' ')?;
@@ -142,10 +138,10 @@ impl Reader {
 
     // The form at which the reader stands, by its stage and the form's kind.
     #[tactic(auto, unfolding(crate::specs::Forms::form_at, crate::specs::Forms::order_at, crate::specs::Forms::end_at))]
-    fn form<S: Spelled>(&self, cursor: &mut Cursor<'_>, room: Counts) -> Result<Form<S>, ReadFault>
+    fn form<S: Spelled>(&self, cursor: &mut Cursor<'_>, room: Counts) -> Result<Form<S>, Fault>
         requires { cursor.old.at ≡ self.now.next }
         ensures roomy { IfOk result (λ f. Roomy room self.now f) }
-        ensures value { TookAs line_of result cursor.old cursor.new (form_at S.Spelled.stamp_at S.Spelled.spelling cursor.old.text.now room self.now) }
+        ensures value { TookAny line_of result cursor.old cursor.new (form_at S.Spelled.stamp_at S.Spelled.spelling cursor.old.text.now room self.now) }
     {
         // Stage and kind together, as the rules of the text have them: a form is read where both allow it, and no table of calls is plainer.
         match (self.stage, cursor.opening()) {
@@ -155,15 +151,16 @@ impl Reader {
                 Ok(Form::Order)
             }
             (Stage::Atoms, Some(Kind::Atom)) => self.atom_form(cursor, room),
-            (Stage::Atoms | Stage::Rules, Some(Kind::Rule)) => self.rule_form(cursor, room),
-            (Stage::Atoms | Stage::Rules, Some(Kind::Void)) => self.void_form(cursor, room),
+            (Stage::Atoms | Stage::Rules, Some(Kind::Rule)) => Ok(self.rule_form(cursor, room)?),
+            (Stage::Atoms | Stage::Rules, Some(Kind::Void)) => Ok(self.void_form(cursor, room)?),
             (Stage::Atoms | Stage::Rules, Some(Kind::End)) => {
                 cursor.pass(b'\n')?;
                 Ok(Form::End)
             }
             _ => Err(ReadFault::Byte {
                 place: self.refused_at(cursor.text),
-            }),
+            }
+            .into()),
         }
     }
 
@@ -199,7 +196,7 @@ impl Reader {
     }
 
     // The form at which the reader stands moves it, or is refused and leaves it where it stands.
-    pub fn step<S: Spelled>(&mut self, text: &[u8], room: Counts) -> Result<Form<S>, ReadFault>
+    pub fn step<S: Spelled>(&mut self, text: &[u8], room: Counts) -> Result<Form<S>, Fault>
         ensures roomy { IfOk result (λ f. Roomy room self.old f) }
         ensures value { Stepped result self.old self.new (form_at S.Spelled.stamp_at S.Spelled.spelling text.now room self.old) }
     {

@@ -1,6 +1,6 @@
 // Reading a whole text into tables of a flat book.
 ghost use Rattle.std.specs.Prelude.{◌≡◌, ◌≤◌, length};
-ghost use Rattle.text.specs.Reads.{as_fault, survey_at, progress_at, book_at, Roomy, put_atom, put_rule, FilledBy, room_of, ReadInto};
+ghost use Rattle.text.specs.Reads.{survey_at, progress_at, book_at, Roomy, put_atom, put_rule, FilledBy, room_of, ReadInto};
 
 use crate::counts::Counts;
 use crate::form::Form;
@@ -21,8 +21,8 @@ const START: Reader = Reader {
 // Goes over the whole text and says where its reader ends, which is past the end form.
 // It writes nothing, since a refused text leaves the tables as they were.
 // Text and room are two parameters, here, in `fill` and in `step`: the room is of the tables and not of the text.
-fn survey<S: Spelled>(text: &[u8], room: Counts) -> Result<Reader, ReadFault>
-    ensures { as_fault result ≡ survey_at S.Spelled.stamp_at S.Spelled.spelling text.now room }
+fn survey<S: Spelled>(text: &[u8], room: Counts) -> Result<Reader, Fault>
+    ensures { result ≡ survey_at S.Spelled.stamp_at S.Spelled.spelling text.now room }
 {
     let mut reader = START;
     // A form has a byte at least, so as many turns as bytes are enough.
@@ -36,7 +36,7 @@ fn survey<S: Spelled>(text: &[u8], room: Counts) -> Result<Reader, ReadFault>
     if reader.stage.is_end() {
         Ok(reader)
     } else {
-        Err(ReadFault::Byte { place: text.len() })
+        Err(ReadFault::Byte { place: text.len() }.into())
     }
 }
 
@@ -65,7 +65,7 @@ fn fill<S: Spelled>(
     room: Counts,
     atoms: &mut [AtomRow<S>],
     rules: &mut [Option<RuleRow>],
-) -> Result<(), ReadFault>
+) -> Result<(), Fault>
     requires atoms { room.atoms ≤ length atoms.old }
     requires rules { room.rules ≤ length rules.old }
     ensures { FilledBy (progress_at S.Spelled.stamp_at S.Spelled.spelling text.now room) result atoms.old atoms.new rules.old rules.new }
@@ -93,7 +93,7 @@ fn room_of(atoms: usize, rules: usize) -> Counts
     }
 }
 
-// Reads a text into the tables, and answers how many atoms and rules it has. Its fault is one of reading, the first of the text.
+// Reads a text into the tables, and answers how many atoms and rules it has. Its fault is the first of the text.
 // A refused text leaves both tables as they were; rows beyond what is written stay.
 pub fn read<S: Spelled>(
     text: &[u8],

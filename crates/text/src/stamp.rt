@@ -1,15 +1,15 @@
 // Stamps that have a word: how a text names their kind, and how it writes them.
-ghost use Rattle.std.specs.Prelude.{◌≡◌, ℕ, ◌+◌, ◌^◌, ◌<◌, ◌≤◌, List, length, Result as Answer};
+ghost use Rattle.std.specs.Prelude.{◌≡◌, ℕ, ◌+◌, ◌^◌, ◌<◌, ◌≤◌, List, length, OnErr, Result as Answer};
 ghost use Rattle.books.specs.declared.fault.Fault.{Fault as Refused};
 ghost use Rattle.text.specs.Spelt.{tick_text, pair_text, route_text};
 ghost use Rattle.text.specs.Written.{Writes};
-ghost use Rattle.text.specs.Cursors.{Took};
+ghost use Rattle.text.specs.Cursors.{Took, TookAny};
 ghost use Rattle.text.specs.Stamps.{tick_at, pair_at, route_at, tick_word, route_word, then_word};
 
 use crate::cursor::Cursor;
 use crate::numbers::MAX_NUMBER;
 use crate::sheet::Sheet;
-use books::fault::ReadFault;
+use books::fault::{Fault, ReadFault};
 use stamps::order::Order;
 use stamps::route::Route;
 use stamps::then::Then;
@@ -31,9 +31,11 @@ pub trait Spelled: Order {
         ensures short { length result.now ≤ 8 };
 
     // The stamp at the cursor's place, and the cursor past it. The faults: a byte that no stamp has there,
-    // a number above its limit, an aisle that does not rise.
-    fn stamp(cursor: &mut Cursor<'_>) -> Result<Self, ReadFault>
-        ensures { Took result cursor.old cursor.new (stamp_at cursor.old.text.now cursor.old.at) };
+    // a number above its limit, an aisle that does not rise. A fault leaves the cursor as it was.
+    // Of which kind the fault is, the definition says; those of the stamps here are all of reading.
+    fn stamp(cursor: &mut Cursor<'_>) -> Result<Self, Fault>
+        ensures value { TookAny (λ stamp. stamp) result cursor.old cursor.new (stamp_at cursor.old.text.now cursor.old.at) }
+        ensures kept { OnErr result (cursor.new ≡ cursor.old) };
 
     // Writes the stamp. What falls beyond the sheet's end is only counted.
     fn spell(&self, sheet: &mut Sheet<'_>)
@@ -62,8 +64,11 @@ impl Spelled for Tick {
         b"tick"
     }
 
-    fn stamp(cursor: &mut Cursor<'_>) -> Result<Tick, ReadFault> {
-        cursor.tick()
+    fn stamp(cursor: &mut Cursor<'_>) -> Result<Tick, Fault> {
+        let mut ahead = *cursor;
+        let tick = ahead.tick()?;
+        *cursor = ahead;
+        Ok(tick)
     }
 
     fn spell(&self, sheet: &mut Sheet<'_>) {
@@ -83,12 +88,14 @@ impl Spelled for Then<Tick, Tick> {
         b"then"
     }
 
-    fn stamp(cursor: &mut Cursor<'_>) -> Result<Then<Tick, Tick>, ReadFault> {
-        cursor.pass(b'(')?;
-        let first = cursor.tick()?;
-        cursor.pass(b' ')?;
-        let second = cursor.tick()?;
-        cursor.pass(b')')?;
+    fn stamp(cursor: &mut Cursor<'_>) -> Result<Then<Tick, Tick>, Fault> {
+        let mut ahead = *cursor;
+        ahead.pass(b'(')?;
+        let first = ahead.tick()?;
+        ahead.pass(b' ')?;
+        let second = ahead.tick()?;
+        ahead.pass(b')')?;
+        *cursor = ahead;
         Ok(Then { first, second })
     }
 
@@ -113,8 +120,11 @@ impl Spelled for Route {
         b"route"
     }
 
-    fn stamp(cursor: &mut Cursor<'_>) -> Result<Route, ReadFault> {
-        cursor.route()
+    fn stamp(cursor: &mut Cursor<'_>) -> Result<Route, Fault> {
+        let mut ahead = *cursor;
+        let route = ahead.route()?;
+        *cursor = ahead;
+        Ok(route)
     }
 
     fn spell(&self, sheet: &mut Sheet<'_>) {

@@ -25,6 +25,6 @@ returns-then-is_end g c =
 
 pub returns-else-is_end : goal.returns-else-is_end
 returns-else-is_end g c =
-    survey_over c.loop-turn.invariant
+    rw c.into.ensures (survey_over c.loop-turn.invariant
     (elim c.loop-turn-test.branch [ else-loop-turn-test w ↦ inl w.loop-turn-test.false | then-loop-turn-test+then-is_finished w ↦ inr w.if-is_finished.ensures ])
-    c.loop-turn.auto._turn-end false c.if-is_end.ensures
+    c.loop-turn.auto._turn-end false c.if-is_end.ensures)
