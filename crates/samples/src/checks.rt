@@ -5,8 +5,10 @@ use books::check::check;
 use books::fault::{Layer, Refusal, Values};
 use makes::flat::Flat;
 use makes::rows::{AtomRow, RuleRow};
+use makes::struck::Struck;
 use stamps::route::Route;
 use stamps::tick::Tick;
+use std::test::Fail;
 
 // A refusal of the check or of a making, as the table of refusals has it: number, rule and literal.
 pub(crate) fn refused(number: u8, rule: usize, literal: usize) -> Option<Refusal> {
@@ -122,6 +124,14 @@ fn lists_stand_at_their_limits(rt: HostRuntime) {
     assert_eq!(rt; told(&plain(1, 1, 0, 7)), refused(3, 0, 0));
     assert_eq!(rt; told(&plain(0, 1, 7, 0)), refused(3, 0, 0));
     assert_eq!(rt; told(&plain(0, 1, 6, 0)), refused(4, 0, 0));
+}
+
+#[test]
+fn a_list_that_is_too_long_is_told_with_its_rule(rt: HostRuntime) -> Result<(), Fail> {
+    let mut book = Struck::over(plain(1, 2, 7, 0));
+    book.strike(0)?;
+    assert_eq!(rt; told(&book), refused(3, 1, 0));
+    Ok(())
 }
 
 // Atoms at the routes {2}, {5} and {2, 5}, the first a reading.

@@ -1,6 +1,6 @@
 // Books of other makes written out and read in again.
-use crate::begins_with;
-use books::fault::CheckFault;
+use crate::{begins_with, is_told};
+use books::fault::{CheckFault, Values};
 use makes::body::TooLong;
 use makes::flat::Flat;
 use makes::patterns::{Pattern, Slot, Step};
@@ -102,8 +102,10 @@ fn a_literal_that_is_not_there_is_not_written(rt: HostRuntime) -> Result<(), Fai
     let missing = CheckFault::LiteralMissing {
         rule: 1,
         literal: 3,
-    };
-    assert_eq!(rt; write(&book, &mut sheet).err(), Some(missing.into()));
+    }
+    .into();
+    assert_eq!(rt; write(&book, &mut sheet).err(), Some(missing));
+    assert!(rt; is_told(missing, 4, Values::RuleLiteral(1, 3)));
     assert!(rt; begins_with(&sheet, b"", 0));
     Ok(())
 }

@@ -137,6 +137,12 @@ fn undeclared(rule: usize, literal: usize) -> Option<Refusal> {
     })
 }
 
+// The fault is told by this number and these values, as the table of refusals has them.
+fn is_told(fault: Fault, number: u8, values: Values) -> bool {
+    let refusal = fault.refusal();
+    refusal.number == number && refusal.values == values
+}
+
 // What the program prints for an input, compared with what is expected.
 fn replies(text: &[u8], expected: &[u8]) -> bool {
     let mut ticks = [mark_row::<Tick>(); 8];

@@ -1,7 +1,7 @@
 // Sheets that are too short, and books that are not written.
 use crate::seven::Seven;
-use crate::{begins_with, mark_row, mark_rule};
-use books::fault::{CheckFault, Fault, MakeFault, ReadFault};
+use crate::{begins_with, is_told, mark_row, mark_rule};
+use books::fault::{CheckFault, Fault, MakeFault, ReadFault, Values};
 use makes::flat::Flat;
 use makes::rows::{AtomRow, RuleRow};
 use stamps::tick::Tick;
@@ -21,10 +21,9 @@ fn a_sheet_one_byte_too_short(rt: HostRuntime) -> Result<(), Fail> {
     };
     let text = b"(order tick)\n(atom 0 in 10)\n(end)\n";
     let mut sheet = [b'#'; 33];
-    let fault = write(&book, &mut sheet).err();
-    assert_eq!(rt; fault, Some(MakeFault::SheetTooShort { needed: 34 }.into()));
-    // No other test compares this number with the table of refusals.
-    assert!(rt; fault.is_some_and(|fault| fault.refusal().number == 17));
+    let short = MakeFault::SheetTooShort { needed: 34 }.into();
+    assert_eq!(rt; write(&book, &mut sheet).err(), Some(short));
+    assert!(rt; is_told(short, 17, Values::One(34)));
     assert!(rt; begins_with(&sheet, b"", 0));
     let mut exact = [b'#'; 34];
     let length = write(&book, &mut exact)?;
@@ -38,10 +37,9 @@ fn a_sheet_one_byte_too_short(rt: HostRuntime) -> Result<(), Fail> {
 #[test]
 fn a_list_of_seven_is_not_written(rt: HostRuntime) {
     let mut sheet = [b'#'; 200];
-    assert_eq!(rt;
-        write(&Seven, &mut sheet).err(),
-        Some(CheckFault::BodyTooLong { rule: 0 }.into())
-    );
+    let long = CheckFault::BodyTooLong { rule: 0 }.into();
+    assert_eq!(rt; write(&Seven, &mut sheet).err(), Some(long));
+    assert!(rt; is_told(long, 3, Values::RuleLiteral(0, 0)));
     assert!(rt; begins_with(&sheet, b"", 0));
 }
 
@@ -54,18 +52,20 @@ fn a_head_that_is_not_there_is_not_written(rt: HostRuntime) {
         rules: &rules,
     };
     let mut sheet = [b'#'; 200];
-    assert_eq!(rt;
-        write(&book, &mut sheet).err(),
-        Some(CheckFault::HeadMissing { rule: 0 }.into())
-    );
+    let missing = CheckFault::HeadMissing { rule: 0 }.into();
+    assert_eq!(rt; write(&book, &mut sheet).err(), Some(missing));
+    assert!(rt; is_told(missing, 4, Values::RuleLiteral(0, 0)));
     assert!(rt; begins_with(&sheet, b"", 0));
 }
 
-// The book is refused as too large, and the sheet stays.
+// The book is refused as too large, with 3, 0 and 0, and the sheet stays.
 fn is_too_large(atoms: &[AtomRow<Tick>], rules: &[Option<RuleRow>]) -> bool {
     let book = Flat { atoms, rules };
     let mut sheet = [b'#'; 64];
-    write(&book, &mut sheet) == Err(CheckFault::TooLarge.into()) && begins_with(&sheet, b"", 0)
+    let fault = CheckFault::TooLarge.into();
+    write(&book, &mut sheet) == Err(fault)
+        && is_told(fault, 3, Values::RuleLiteral(0, 0))
+        && begins_with(&sheet, b"", 0)
 }
 
 #[test]
@@ -74,28 +74,30 @@ fn a_book_over_the_limits_is_not_written(rt: HostRuntime) {
     assert!(rt; is_too_large(&[], &[None; 1025]));
 }
 
-// The text is refused with this fault, and the sheet stays.
-fn leaves_the_sheet(text: &[u8], fault: Fault) -> bool {
+// The text is refused with this fault, which has this number, and the sheet stays.
+fn leaves_the_sheet(text: &[u8], fault: Fault, number: u8) -> bool {
     let mut sheet = [b'#'; 24];
     let mut atoms = [mark_row::<Tick>(); 4];
     let mut rules = [mark_rule(); 4];
     let answer = canonical(text, &mut atoms, &mut rules, &mut sheet);
-    answer == Err(fault) && begins_with(&sheet, b"", 0)
+    answer == Err(fault) && fault.refusal().number == number && begins_with(&sheet, b"", 0)
 }
 
 #[test]
 fn a_refused_text_leaves_the_sheet(rt: HostRuntime) {
-    assert!(rt; leaves_the_sheet(b"(order tick)\n", ReadFault::Byte { place: 13 }.into()));
+    assert!(rt; leaves_the_sheet(b"(order tick)\n", ReadFault::Byte { place: 13 }.into(), 1));
     assert!(rt;
         leaves_the_sheet(
             b"(order tick)\n(atom 0 in 1)\n(rule 0 0 () ())\n(end)\n",
-            CheckFault::HeadIsReading { rule: 0 }.into()
+            CheckFault::HeadIsReading { rule: 0 }.into(),
+            5
         )
     );
     assert!(rt;
         leaves_the_sheet(
             b"(order tick)\n(atom 0 in 1)\n(end)\n",
-            MakeFault::SheetTooShort { needed: 33 }.into()
+            MakeFault::SheetTooShort { needed: 33 }.into(),
+            17
         )
     );
 }
