@@ -39,6 +39,13 @@ module _ {S : Type 0} (tests : Tests S) (m : Meaning S) where
       let none = first_all (rule_fault tests m) (length m.rules) (λ k _. sound_rule s k) in
       grind (arith, nat_tests, s.few_atoms, s.few_rules)
 
+  -- a sound book has no fault
+  sound_unbroken : Sound tests m → (g : CheckFault) → Breaks tests m g → ⊥
+  sound_unbroken s g b = elim (caught tests m g b) [
+    | inl large ↦ absurd (grind (arith, nat_tests, s.few_atoms, s.few_rules))
+    | inr w ↦ (let none = sound_rule s (rule_of g) in absurd (grind (arith, w.1.1)))
+  ]
+
   rule_told : (k : ℕ) (f : CheckFault) → rule_fault tests m k ≡ Some f → Told tests m k f
   rule_told k f e = by (rule_at m k) refl
     where

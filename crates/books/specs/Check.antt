@@ -70,9 +70,11 @@ book_walk asked tests m =
 abbrev pub head_fault : {S : Type 0} → Tests S → Meaning S → ℕ → ℕ → ℕ → Option (Atom S) → Option CheckFault
 head_fault = head_walk Ordered
 
+-- the first fault of the rule of number k that the check meets
 abbrev pub rule_fault : {S : Type 0} → Tests S → Meaning S → ℕ → Option CheckFault
 rule_fault = rule_walk Ordered
 
+-- the first fault of the book that the check meets
 abbrev pub book_fault : {S : Type 0} → Tests S → Meaning S → Option CheckFault
 book_fault = book_walk Ordered
 

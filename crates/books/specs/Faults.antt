@@ -26,6 +26,7 @@ check_refusal (LiteralMissing rule literal) = checking_at 4 rule literal
 check_refusal (PositiveOutOfOrder rule literal) = checking_at 6 rule literal
 check_refusal (NegativeOutOfOrder rule literal) = checking_at 7 rule literal
 
+-- a refusal of making, striking or writing
 abbrev pub make_refusal : MakeFault → Refusal
 make_refusal (SlotMissing pattern literal) = checking_at 4 pattern literal
 make_refusal (RuleMissing rule) = checking_at 4 rule 0

@@ -41,6 +41,7 @@ abbrev pub of_sign : Sign → Rule → List ℕ
 of_sign Positive r = r.positives
 of_sign Negative r = r.negatives
 
+-- the length of a rule's list of that sign
 abbrev pub body_count_of : {S : Type 0} → Meaning S → ℕ → Sign → Option ℕ
 body_count_of m k sign = option_map (λ (r : Rule). length (of_sign sign r)) (rule_at m k)
 

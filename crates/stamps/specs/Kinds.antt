@@ -4,9 +4,11 @@ use Rattle.stamps.specs.declared.tick.Tick.{Tick}
 use Rattle.stamps.specs.declared.route.Route.{Route}
 use Rattle.stamps.specs.declared.then.Then.{Then}
 
+-- ticks, by their numbers
 abbrev pub ticks : Tests Tick
 ticks = tick_tests (λ a. a.0)
 
+-- routes, by their aisles
 abbrev pub routes : Tests Route
 routes = route_tests (λ a. a.aisles)
 

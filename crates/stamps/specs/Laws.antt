@@ -5,6 +5,7 @@ use Rattle.std.proofs.lemmas.Bool.Decides.{nat_tests}
 use Rattle.stamps.specs.Orders.{Tests, IsLawful, tick_tests, route_tests, then_tests}
 use Rattle.stamps.specs.Parts.{part_self, part_trans}
 
+-- numbers keep the laws
 pub tick_lawful : {S : Type 0} (number : S → ℕ) → IsLawful (tick_tests number)
 tick_lawful number = record {
   reflexive = λ a. grind (arith, nat_tests);
@@ -15,6 +16,7 @@ tick_lawful number = record {
   strict_right = λ a b c p q. grind (arith, nat_tests);
 }
 
+-- sets of aisles keep the laws
 pub route_lawful : {S : Type 0} (mask : S → ℕ) → IsLawful (route_tests mask)
 route_lawful mask = record {
   reflexive = λ a. part_self (mask a);
@@ -25,6 +27,7 @@ route_lawful mask = record {
   strict_right = λ a b c p q. grind (arith, part_trans);
 }
 
+-- two orders that keep the laws, one after the other, keep them
 pub then_lawful : {S X Y : Type 0} (one : Tests X) (two : Tests Y) (first : S → X) (second : S → Y) → IsLawful one → IsLawful two → IsLawful (then_tests one two first second)
 then_lawful one two first second l m = record {
   reflexive = λ a. grind (arith, l.reflexive, m.reflexive);
