@@ -17,6 +17,7 @@ use Rattle.books.specs.declared.fault.Fault.TheVariants as fault
 abbrev pub checking_at : ℕ → ℕ → ℕ → Refusal
 checking_at number rule literal = record { layer = Checking; number = number; values = RuleLiteral rule literal }
 
+-- a refusal of the check
 abbrev pub check_refusal : CheckFault → Refusal
 check_refusal TooLarge = checking_at 3 0 0
 check_refusal (BodyTooLong rule) = checking_at 3 rule 0
@@ -36,6 +37,7 @@ make_refusal (SheetTooShort needed) = record { layer = Checking; number = 17; va
 abbrev pub reading_at : ℕ → Values → Refusal
 reading_at number values = record { layer = Reading; number = number; values = values }
 
+-- a refusal of the reading of a text
 abbrev pub read_refusal : ReadFault → Refusal
 read_refusal (Byte place) = reading_at 1 (One place)
 read_refusal (NotRising place) = reading_at 1 (One place)
@@ -43,6 +45,7 @@ read_refusal (Number place) = reading_at 2 (One place)
 read_refusal (TooMany place) = reading_at 3 (One place)
 read_refusal (AtomMissing rule literal) = reading_at 4 (RuleLiteral rule literal)
 
+-- every refusal of the product
 abbrev pub refusal_of : Fault → Refusal
 refusal_of (fault.Reading f) = read_refusal f
 refusal_of (fault.Checking f) = check_refusal f

@@ -33,6 +33,7 @@ stamp_of m a = option_map (λ (x : Atom _). x.stamp) (slice_get m.atoms a)
 abbrev pub reading_of : {S : Type 0} → Meaning S → ℕ → Option Bool
 reading_of m a = option_map (λ (x : Atom _). x.reading) (slice_get m.atoms a)
 
+-- the head of a rule; none for a vacant number and beyond the count of rule numbers
 abbrev pub head_of : {S : Type 0} → Meaning S → ℕ → Option ℕ
 head_of m k = option_map (λ (r : Rule). r.head) (rule_at m k)
 

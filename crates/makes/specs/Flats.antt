@@ -6,6 +6,7 @@ use Rattle.makes.specs.Bodies.{body_items}
 use Rattle.makes.specs.declared.rows.AtomRow.{AtomRow}
 use Rattle.makes.specs.declared.rows.RuleRow.{RuleRow}
 
+-- the atom that a row is
 abbrev pub atom_of : {S : Type 0} → AtomRow S → Atom S
 atom_of a = record { stamp = a.stamp; reading = a.reading }
 
@@ -13,6 +14,7 @@ atom_of a = record { stamp = a.stamp; reading = a.reading }
 abbrev pub rule_by : ℕ → List ℕ → List ℕ → Rule
 rule_by head positives negatives = record { head = head; positives = positives; negatives = negatives }
 
+-- the rule that a row is
 abbrev pub rule_of : RuleRow → Rule
 rule_of r = rule_by r.head (body_items r.positives) (body_items r.negatives)
 

@@ -45,6 +45,7 @@ instance_of width t p =
     then_some (started_by t (body_items p.positives) && started_by t (body_items p.negatives))
     (rule_by (t * width + p.head) (map (atom_back width t) (body_items p.positives)) (map (atom_back width t) (body_items p.negatives)))
 
+-- each slot and each pattern at each tick, tick by tick
 abbrev pub repeating_meaning : List Slot → ℕ → List Pattern → Meaning (Then Tick Tick)
 repeating_meaning slots ticks patterns = record { atoms = every_tick slot_atom slots ticks; rules = every_tick (instance_of (length slots)) patterns ticks }
 

@@ -3,6 +3,7 @@ use Rattle.std.specs.Prelude.{◌≡◌, ℕ, Bool, false, not, ◌&&◌, ◌||�
 use Rattle.std.specs.Bool.{IsTrue}
 use Rattle.std.specs.List.{list_any, range_with_len}
 
+-- which numbers are in it
 abbrev pub Set : Type 0
 Set = ℕ → Bool
 

@@ -24,6 +24,7 @@ leans_on_no tick = record { atoms = at tick ∷ at 5 ∷ []; rules = Some (recor
 abbrev pub told : Meaning ℕ → Option Refusal
 told m = option_map check_refusal (book_fault (tick_tests (λ n. n)) m)
 
+-- what the check tells of literals level with the head, before and after it, and how three routes stand
 pub record Cases : Type 0 where
   pub negative_level : told (leans_on_no 5) ≡ Some (checking_at 7 0 1)
   pub negative_before : told (leans_on_no 4) ≡ None

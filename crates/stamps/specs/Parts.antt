@@ -61,8 +61,10 @@ pub part_mask : (a b : ℕ) → a < 2 ^ 64 → b < 2 ^ 64 → part_of a b ≡ (b
 unfolding part_of
 part_mask a b ha hb = shares_mask a b 64 ∙ (rw (mod-eq_of_lt ha, mod-eq_of_lt hb) refl)
 
+-- a route is part of itself
 pub part_self : (a : ℕ) → IsTrue (part_of a a)
 part_self a = part_in a a (λ k l. grind arith)
 
+-- part of a part is part
 pub part_trans : (a b c : ℕ) → IsTrue (part_of a b) → IsTrue (part_of b c) → IsTrue (part_of a c)
 part_trans a b c p q = part_in a c (λ k l. let x = part_out a b k p l in let y = part_out b c k q l in grind arith)
